@@ -1,0 +1,14 @@
+//! Lists that contracts see as the list of their items, equality and copies of them, and want of memory.
+#![tactic(auto)]
+
+mod duplicate;
+mod few;
+mod items;
+mod memory;
+mod same;
+
+pub use duplicate::{Duplicate, duplicate_items};
+pub use few::Few;
+pub use items::Items;
+pub use memory::Memory;
+pub use same::{Same, same_items};

@@ -1,0 +1,80 @@
+-- Address sets bit by bit.
+use Rattle.std.proofs.Common.{ℕ, ◌+◌, ◌-◌, ◌^◌, ◌%◌, ◌<◌, ◌≤◌, ◌≡◌, ◌⊎◌, ◌*◌, ◌↔◌, inl, inr, min, max, ap, sym, ◌∙◌, arith, rules, bit_and, bit_or, refl, w64, IsTrue, nat_eq}
+use Rattle.std.specs.Prelude.{bit_xor}
+use Rattle.std.specs.Int.{bit_at}
+use Rattle.std.proofs.lemmas.Nat.Bits.{bit_at_and, bit_at_or, bit_at_xor, bit_at_not, bit_at-lt, bit_at_above, bit_at-zero, same_from_bits}
+use Rattle.std.proofs.Math.Pow.{pow-lt}
+use Rattle.std.proofs.lemmas.Bool.Decides.{Decides-eqb}
+use Rattle.dip_sets.specs.Sets.{Pattern, Overlap}
+
+below_or_above : (i n : ℕ) → (i < n) ⊎ (n ≤ i)
+below_or_above i n = search rules
+
+-- a test of two numbers in place of their equation
+pub tested : {P : Type 0} (a b : ℕ) → (a ≡ b) ↔ P → IsTrue (nat_eq a b) ↔ P
+tested a b h = (λ t. h.0 ((Decides-eqb a b).0 t), λ p. (Decides-eqb a b).1 (h.1 p))
+
+-- numbers without a common bit
+pub apart_bits : (b m i : ℕ) → bit_and b m ≡ 0 → min (bit_at b i) (bit_at m i) ≡ 0
+apart_bits b m i h = sym (bit_at_and b m i) ∙ ap (λ n. bit_at n i) h ∙ bit_at-zero i
+
+-- ---- contains
+
+-- a bit of `x & !m`, where x has 64 bits
+pub and_not_bits : (x m i : ℕ) → x < 2 ^ 64 → m < 2 ^ 64 → bit_at (bit_and x (2 ^ 64 - 1 - m)) i ≡ min (bit_at x i) (1 - bit_at m i)
+and_not_bits x m i hx hm =
+    elim (below_or_above i 64) [
+      | inl lt ↦ bit_at_and x (2 ^ 64 - 1 - m) i ∙ ap (λ k. min (bit_at x i) k) (bit_at_not w64 m i hm lt)
+      | inr ge ↦ let zero_x : bit_at x i ≡ 0 = bit_at_above x 64 i hx ge in omega (arith, bit_at_and x (2 ^ 64 - 1 - m) i)
+    ]
+
+-- the bits m of a mask, b of a base, x of a number, r of `x & !m`
+one_bit : (m b x r : ℕ) → x < 2 → b < 2 → m < 2 → (m ≡ 0 → x ≡ b) → min b m ≡ 0 → r ≡ min x (1 - m) → r ≡ b
+one_bit m b x r lx lb lm h a e = grind arith
+
+outside : (m b x r : ℕ) → x < 2 → m ≡ 0 → r ≡ min x (1 - m) → r ≡ b → x ≡ b
+outside m b x r lx z e h = omega arith
+
+-- what the test of `contains` says
+pub contains_is : (b m x : ℕ) → bit_and b m ≡ 0 → b < 2 ^ 48 → m < 2 ^ 48 → x < 2 ^ 64 → (bit_and x (2 ^ 64 - 1 - m) ≡ b) ↔ ((i : ℕ) → bit_at m i ≡ 0 → bit_at x i ≡ bit_at b i)
+contains_is b m x apart hb hm hx =
+    let hm64 : m < 2 ^ 64 = omega arith in (
+      λ h i zero_m. outside (bit_at m i) (bit_at b i) (bit_at x i) _ (bit_at-lt x i) zero_m (and_not_bits x m i hx hm64) (ap (λ n. bit_at n i) h),
+      λ h. same_from_bits _ _ (λ i. one_bit (bit_at m i) (bit_at b i) (bit_at x i) _ (bit_at-lt x i) (bit_at-lt b i) (bit_at-lt m i) (h i) (apart_bits b m i apart) (and_not_bits x m i hx hm64)),
+    )
+
+-- ---- overlaps
+
+overlap_bit : (b1 m1 b2 m2 i : ℕ) → bit_at (bit_and (bit_xor b1 b2) (bit_or m1 m2)) i ≡ min ((bit_at b1 i + bit_at b2 i) % 2) (max (bit_at m1 i) (bit_at m2 i))
+overlap_bit b1 m1 b2 m2 i = rw (bit_at_and (bit_xor b1 b2) (bit_or m1 m2) i, bit_at_xor b1 b2 i, bit_at_or m1 m2 i) refl
+
+-- the bits of two bases and masks, and of a number
+meets : (b1 m1 b2 m2 : ℕ) → b1 < 2 → m1 < 2 → b2 < 2 → m2 < 2 → min b1 m1 ≡ 0 → min b2 m2 ≡ 0 → min ((b1 + b2) % 2) (max m1 m2) ≡ (b1 + b2) % 2
+    → (m1 ≡ 0 → max b1 b2 ≡ b1) × (m2 ≡ 0 → max b1 b2 ≡ b2)
+meets b1 m1 b2 m2 lb1 lm1 lb2 lm2 a1 a2 h = (λ z. grind arith, λ z. grind arith)
+
+agree : (b1 m1 b2 m2 x : ℕ) → b1 < 2 → m1 < 2 → b2 < 2 → m2 < 2 → (m1 ≡ 0 → x ≡ b1) → (m2 ≡ 0 → x ≡ b2) → min ((b1 + b2) % 2) (max m1 m2) ≡ (b1 + b2) % 2
+agree b1 m1 b2 m2 x lb1 lm1 lb2 lm2 h1 h2 = grind arith
+
+-- where a number is in both, the bases differ in bits of the masks alone
+overlap_from : (p q : Pattern) → Overlap p q → bit_and (bit_xor p.base q.base) (bit_or p.mask q.mask) ≡ bit_xor p.base q.base
+overlap_from p q (x, in_p, in_q) = same_from_bits _ _ (λ i. overlap_bit p.base p.mask q.base q.mask i
+    ∙ agree (bit_at p.base i) (bit_at p.mask i) (bit_at q.base i) (bit_at q.mask i) (bit_at x i) (bit_at-lt _ i) (bit_at-lt _ i) (bit_at-lt _ i) (bit_at-lt _ i) (in_p i) (in_q i)
+    ∙ sym (bit_at_xor p.base q.base i))
+
+-- what the test of `overlaps` says
+pub overlaps_is : (p q : Pattern) → bit_and p.base p.mask ≡ 0 → bit_and q.base q.mask ≡ 0
+    → (bit_and (bit_xor p.base q.base) (bit_or p.mask q.mask) ≡ bit_xor p.base q.base) ↔ Overlap p q
+overlaps_is p q ap1 ap2 = (
+  λ h.
+      let each : (i : ℕ) → (bit_at p.mask i ≡ 0 → max (bit_at p.base i) (bit_at q.base i) ≡ bit_at p.base i) × (bit_at q.mask i ≡ 0 → max (bit_at p.base i) (bit_at q.base i) ≡ bit_at q.base i) =
+      λ i. meets (bit_at p.base i) (bit_at p.mask i) (bit_at q.base i) (bit_at q.mask i) (bit_at-lt _ i) (bit_at-lt _ i) (bit_at-lt _ i) (bit_at-lt _ i) (apart_bits _ _ i ap1) (apart_bits _ _ i ap2)
+      (sym (overlap_bit p.base p.mask q.base q.mask i) ∙ ap (λ n. bit_at n i) h ∙ bit_at_xor p.base q.base i)
+      in (bit_or p.base q.base, λ i z. bit_at_or p.base q.base i ∙ (each i).0 z, λ i z. bit_at_or p.base q.base i ∙ (each i).1 z),
+  overlap_from p q,
+)
+
+-- ---- alignment
+
+pub shifted_one : (k : ℕ) → k < 64 → 1 * 2 ^ k % 2 ^ 64 ≡ 2 ^ k
+shifted_one k h = let p : 2 ^ k < 2 ^ 64 = pow-lt h in grind arith

@@ -1,0 +1,10 @@
+//! Names, address sets, transfer sizes and id ranges.
+#![tactic(auto)]
+
+mod name;
+mod set;
+mod sizes;
+
+pub use name::Name;
+pub use set::{AddressSet, BadSet};
+pub use sizes::Sizes;

@@ -1,0 +1,99 @@
+ghost use Rattle.std.specs.Prelude.{◌≡◌, ◌≢◌, ◌≤◌, ◌^◌, ◌⊎◌, ◌↔◌, IsTrue, IfOk, OnErr, bit_and};
+ghost use Rattle.dip_sets.specs.Sets.{In, Overlap, IsLowestClear, IsSet, is_in, overlap, alignment};
+
+use dip_lists::Same;
+use std::marker::Model;
+use thiserror::Error;
+
+/// A base and a mask share a bit, or one of them is 2^48 or more.
+#[derive(Clone, Copy, Debug, PartialEq, Eq, Error)]
+#[error("a base and a mask share a bit or exceed 48 bits")]
+pub struct BadSet;
+
+/// The addresses below 2^48 whose bits outside the mask are those of the base.
+#[derive(Clone, Copy, Debug, PartialEq, Eq)]
+pub struct AddressSet {
+    base: u64,
+    mask: u64,
+}
+
+impl Model for AddressSet {
+    ghost use Rattle.std.specs.Prelude.{◌≡◌, ◌<◌, ◌^◌, bit_and};
+    ghost use Rattle.dip_sets.specs.Sets.{Pattern};
+
+    ghost Value = { Pattern };
+
+    ghost view = { λ s. record { base = s.base; mask = s.mask } };
+
+    ghost invariant = { λ s. (bit_and s.base s.mask ≡ 0) × (s.base < 2 ^ 48) × (s.mask < 2 ^ 48) };
+
+    ghost inverse = { λ p. record { base = p.base; mask = p.mask } };
+}
+
+impl AddressSet {
+    /// The set with this base and mask; `BadSet` exactly where they share a bit or either is 2^48 or more.
+    pub fn new(base: u64, mask: u64) -> Result<AddressSet, BadSet>
+        ensures ok { IfOk result (λ s. (s.base ≡ base) × (s.mask ≡ mask)) }
+        ensures err { OnErr result ((bit_and base mask ≢ 0) ⊎ (2 ^ 48 ≤ base) ⊎ (2 ^ 48 ≤ mask)) }
+    {
+        if base >= 1 << 48 || mask >= 1 << 48 || base & mask != 0 {
+            return Err(BadSet);
+        }
+        Ok(AddressSet { base, mask })
+    }
+
+    /// The bits that each address of the set has outside the mask.
+    pub fn base(&self) -> u64
+        ensures value { result ≡ self.now.base }
+        ensures set { IsSet self.now }
+    {
+        self.base
+    }
+
+    /// The bits in which the addresses of the set differ.
+    pub fn mask(&self) -> u64
+        ensures value { result ≡ self.now.mask }
+        ensures set { IsSet self.now }
+    {
+        self.mask
+    }
+
+    /// Whether the address is in the set.
+    pub fn contains(&self, x: u64) -> bool
+        ensures members { IsTrue result ↔ In self.now x }
+        ensures test { result ≡ is_in self.now x }
+    {
+        x & !self.mask == self.base
+    }
+
+    /// Whether some address is in both sets.
+    pub fn overlaps(&self, other: &AddressSet) -> bool
+        ensures members { IsTrue result ↔ Overlap self.now other.now }
+        ensures test { result ≡ overlap self.now other.now }
+    {
+        let differing = self.base ^ other.base;
+        differing & (self.mask | other.mask) == differing
+    }
+
+    /// The lowest power of two that isn't a bit of the mask: blocks of so many bytes lie whole in the set or whole
+    /// outside it.
+    pub fn alignment(&self) -> u64
+        ensures lowest { IsLowestClear self.now.mask result }
+        ensures value { result ≡ alignment self.now }
+    {
+        1 << self.mask.trailing_ones()
+    }
+}
+
+impl Default for AddressSet {
+    /// The set of address 0 alone.
+    fn default() -> AddressSet {
+        AddressSet { base: 0, mask: 0 }
+    }
+}
+
+impl Same for AddressSet {
+    fn same(&self, other: &AddressSet) -> bool {
+        self.base == other.base && self.mask == other.mask
+    }
+}
