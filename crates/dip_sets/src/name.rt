@@ -46,10 +46,12 @@ fn has_name_bytes(text: &[u8]) -> bool
     text.iter().all(|byte| is_name_byte(*byte))
 }
 
-fn is_name(text: &[u8]) -> bool
+/// Whether a text has the form of a name.
+pub fn is_name(text: &str) -> bool
     ensures { result ≡ names.is_name text.now }
 {
-    begins_with_letter(text) && text.len() <= 64 && has_name_bytes(text)
+    let bytes = text.as_bytes();
+    begins_with_letter(bytes) && bytes.len() <= 64 && has_name_bytes(bytes)
 }
 
 impl Name {
@@ -57,7 +59,7 @@ impl Name {
     pub fn new(alloc: Global, text: &str) -> Result<Option<Name>, Memory>
         ensures { IfOk result (λ name. name ≡ (if names.is_name text.now then Some text.now else None)) }
     {
-        if !is_name(text.as_bytes()) {
+        if !is_name(text) {
             return Ok(None);
         }
         let text = String::from_str(alloc, text)?;

@@ -1,0 +1,11 @@
+use thiserror::Error;
+
+/// Why there is no result.
+#[derive(Clone, Copy, Debug, PartialEq, Eq, Error)]
+pub enum Fault {
+    /// The first check that fails, and the number of what it fails on.
+    #[error("check {number} fails at {subject}")]
+    Check { number: u16, subject: u64 },
+    #[error("out of memory")]
+    Memory,
+}
