@@ -1,3 +1,4 @@
+use dip_lists::Memory;
 use thiserror::Error;
 
 /// Why there is no result.
@@ -8,4 +9,15 @@ pub enum Fault {
     Check { number: u16, subject: u64 },
     #[error("out of memory")]
     Memory,
+}
+
+impl From<Memory> for Fault {
+    ghost use Rattle.std.specs.Prelude.{◌≡◌};
+    ghost use Rattle.dip_graph.specs.declared.fault.Fault.TheVariants as fault;
+
+    ghost from_gives = { λ _ e. e ≡ fault.Memory };
+
+    fn from(_: Memory) -> Fault {
+        Fault::Memory
+    }
 }

@@ -34,6 +34,7 @@ impl AddressSet {
     /// The set with this base and mask; `BadSet` exactly where they share a bit or either is 2^48 or more.
     pub fn new(base: u64, mask: u64) -> Result<AddressSet, BadSet>
         ensures ok { IfOk result (λ s. (s.base ≡ base) × (s.mask ≡ mask)) }
+        ensures set { IfOk result (λ s. IsSet s) }
         ensures err { OnErr result ((bit_and base mask ≢ 0) ⊎ (2 ^ 48 ≤ base) ⊎ (2 ^ 48 ≤ mask)) }
     {
         if base >= 1 << 48 || mask >= 1 << 48 || base & mask != 0 {

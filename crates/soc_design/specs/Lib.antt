@@ -1,0 +1,4 @@
+pub mod Shape
+pub mod Stated
+pub mod Reading
+pub mod Faults

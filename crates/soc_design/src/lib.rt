@@ -1,13 +1,8 @@
-// A library with one function.
+//! Reads design files: the first check that a file fails, or the design that it states.
 #![tactic(auto)]
 
-ghost use Rattle.std.specs.Prelude.{◌≡◌};
-ghost use Rattle.soc_design.specs.Echo.{echo_of};
+mod limits;
+mod shape;
+mod tables;
 
-// The `ensures` clause is the contract: what `echo` returns is `echo_of` of its argument, a definition
-// in `specs/Echo.antt`, which a caller's clause can cite too.
-pub fn echo(x: usize) -> usize
-    ensures { result ≡ echo_of x }
-{
-    x
-}
+pub use limits::Heading;

@@ -1,5 +1,5 @@
 -- What stands in a TOML tree.
-use Rattle.std.specs.Prelude.{ℕ, ℤ, pos, negsuc, List, [], ◌∷◌, length, Bool, true, false, ◌&&◌, ◌||◌, cond, Option, Some, None, nat_le}
+use Rattle.std.specs.Prelude.{ℕ, ℤ, pos, negsuc, List, [], ◌∷◌, length, Bool, true, false, ◌&&◌, ◌||◌, cond, Option, Some, None, is_some, nat_le}
 use Rattle.std.specs.Option.{option_and_then, option_map}
 use Rattle.std.specs.Str.{bytes_eq}
 use Rattle.toml.specs.Data.{Data, string, integer, array, table, Items, no_items, item, Members, no_members, member, get_member}
@@ -48,6 +48,10 @@ abbrev pub number_within : ℕ → ℕ → ℤ → Option ℕ
 number_within least most (pos n) = cond (nat_le least n && nat_le n most) (Some n) None
 number_within least most (negsuc n) = None
 
+abbrev pub members_of : Data → Option Members
+members_of (table ms) = Some ms
+members_of d = None
+
 abbrev pub is_table : Data → Bool
 is_table (table ms) = true
 is_table d = false
@@ -73,6 +77,9 @@ number_under key least most ms = option_and_then (number_within least most) (int
 abbrev pub pair_under : List ℕ → Members → Option (ℤ × ℤ)
 pair_under key ms = option_and_then pair_of (get_member key ms)
 
+abbrev pub table_under : List ℕ → Members → Option Members
+table_under key ms = option_and_then members_of (get_member key ms)
+
 -- an array of tables, which may be missing
 abbrev pub tables_of : Option Data → Option Items
 tables_of None = Some no_items
@@ -81,3 +88,29 @@ tables_of (Some d) = None
 
 abbrev pub tables_under : List ℕ → Members → Option Items
 tables_under key ms = tables_of (get_member key ms)
+
+-- ---- what stands under a key
+
+abbrev pub is_integer : Data → Bool
+is_integer d = is_some (integer_of d)
+
+abbrev pub is_short_name : Data → Bool
+is_short_name d = is_some (option_and_then short_name (text_of d))
+
+abbrev pub is_text_among : List (List ℕ) → Option (List ℕ) → Bool
+is_text_among texts None = false
+is_text_among texts (Some text) = is_among texts text
+
+-- one of these texts
+abbrev pub is_one_of : List (List ℕ) → Data → Bool
+is_one_of texts d = is_text_among texts (text_of d)
+
+-- the value has to stand there and pass
+abbrev pub has : (Data → Bool) → Option Data → Bool
+has test None = false
+has test (Some d) = test d
+
+-- the value may be missing, and passes where it stands there
+abbrev pub may_have : (Data → Bool) → Option Data → Bool
+may_have test None = true
+may_have test (Some d) = test d

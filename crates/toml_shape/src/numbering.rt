@@ -1,4 +1,4 @@
-ghost use Rattle.std.specs.Prelude.{◌≡◌, [], ◌∷◌, ◌++◌, false, OnOk, OnErr};
+ghost use Rattle.std.specs.Prelude.{◌≡◌, [], ◌∷◌, ◌++◌, ◌<◌, length, false, IfSome, OnOk, OnErr};
 ghost use Rattle.toml_shape.specs.Numbers.{is_named, number_of};
 
 use dip_lists::Memory;
@@ -43,7 +43,8 @@ impl Names {
 
     /// The number of a name, counted from 0 in the order of adding.
     pub fn number_of(&self, name: &str) -> Option<usize>
-        ensures { result ≡ number_of self.now name.now }
+        ensures value { result ≡ number_of self.now name.now }
+        ensures within { IfSome result (λ number. number < length self.now) }
     {
         self.numbers.get_index_of(name)
     }

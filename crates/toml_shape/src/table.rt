@@ -1,7 +1,8 @@
-ghost use Rattle.std.specs.Prelude.{◌≡◌, map};
+ghost use Rattle.std.specs.Prelude.{◌≡◌, ◌≤◌, map, is_some, IsTrue, IfSome};
 ghost use Rattle.std.specs.Option.{option_map};
 ghost use Rattle.toml.specs.Data.{get_member};
 ghost use Rattle.toml.specs.View.{table_view, view, items_view};
+ghost use Rattle.dip_sets.specs.Names as names;
 ghost use Rattle.toml_shape.specs.Shapes as spec;
 
 use crate::{number_within, pair};
@@ -18,7 +19,8 @@ pub fn under<'a>(table: &'a Table, key: &str) -> Option<&'a Value>
     table.get(key)
 }
 
-fn is_among(keys: &[&str], key: &str) -> bool
+/// Whether a text is one of these.
+pub fn is_among(keys: &[&str], key: &str) -> bool
     ensures { result ≡ spec.is_among (map (λ k. k.now) keys.now) key.now }
 {
     for one in keys {
@@ -53,7 +55,8 @@ pub fn text_under<'a>(table: &'a Table, key: &str) -> Option<&'a str>
 
 /// The text under a key, if it is a name of at most 32 bytes.
 pub fn name_under<'a>(table: &'a Table, key: &str) -> Option<&'a str>
-    ensures { option_map (λ name. name.now) result ≡ spec.name_under key.now (table_view table.now) }
+    ensures value { option_map (λ name. name.now) result ≡ spec.name_under key.now (table_view table.now) }
+    ensures form { IfSome result (λ name. IsTrue (names.is_name name.now)) }
 {
     let text = text_under(table, key)?;
     if is_name(text) && text.len() <= MOST_NAME {
@@ -75,9 +78,20 @@ pub fn integer_under(table: &Table, key: &str) -> Option<i64>
 
 /// The number under a key, if there is one from `least` to `most`.
 pub fn number_under(table: &Table, key: &str, least: u64, most: u64) -> Option<u64>
-    ensures { result ≡ spec.number_under key.now least most (table_view table.now) }
+    ensures value { result ≡ spec.number_under key.now least most (table_view table.now) }
+    ensures within { IfSome result (λ number. (least ≤ number) × (number ≤ most)) }
 {
     number_within(integer_under(table, key)?, least, most)
+}
+
+/// The table under a key, if there is one.
+pub fn table_under<'a>(table: &'a Table, key: &str) -> Option<&'a Table>
+    ensures { option_map (λ t. table_view t.now) result ≡ spec.table_under key.now (table_view table.now) }
+{
+    match under(table, key) {
+        Some(Value::Table(inner)) => Some(inner),
+        _ => None,
+    }
 }
 
 /// The two integers under a key, if there is an array of exactly two.
@@ -112,5 +126,44 @@ pub fn tables_under<'a>(table: &'a Table, key: &str) -> Option<&'a [Value]>
         None => Some(&[]),
         Some(Value::Array(items)) if are_tables(items.as_slice()) => Some(items.as_slice()),
         Some(_) => None,
+    }
+}
+
+/// Whether a key is missing or has an integer.
+pub fn may_have_integer(table: &Table, key: &str) -> bool
+    ensures { result ≡ spec.may_have spec.is_integer (get_member key.now (table_view table.now)) }
+{
+    match under(table, key) {
+        None => true,
+        Some(Value::Integer(_)) => true,
+        Some(_) => false,
+    }
+}
+
+fn is_short_name(text: &str) -> bool
+    ensures { result ≡ is_some (spec.short_name text.now) }
+{
+    is_name(text) && text.len() <= MOST_NAME
+}
+
+/// Whether a key is missing or has a name of at most 32 bytes.
+pub fn may_have_name(table: &Table, key: &str) -> bool
+    ensures { result ≡ spec.may_have spec.is_short_name (get_member key.now (table_view table.now)) }
+{
+    match under(table, key) {
+        None => true,
+        Some(Value::String(text)) => is_short_name(text.as_str()),
+        Some(_) => false,
+    }
+}
+
+/// Whether a key is missing or has one of these texts.
+pub fn may_have_text(table: &Table, key: &str, texts: &[&str]) -> bool
+    ensures { result ≡ spec.may_have (spec.is_one_of (map (λ t. t.now) texts.now)) (get_member key.now (table_view table.now)) }
+{
+    match under(table, key) {
+        None => true,
+        Some(Value::String(text)) => is_among(texts, text.as_str()),
+        Some(_) => false,
     }
 }

@@ -1,4 +1,4 @@
-ghost use Rattle.std.specs.Prelude.{◌≡◌};
+ghost use Rattle.std.specs.Prelude.{◌≡◌, ◌≤◌, IfSome};
 ghost use Rattle.std.specs.Option.{option_map};
 ghost use Rattle.toml.specs.View.{view, items_view};
 ghost use Rattle.toml_shape.specs.Shapes as spec;
@@ -7,7 +7,8 @@ use toml::Value;
 
 /// The number that an integer is, if it is one from `least` to `most`.
 pub fn number_within(integer: i64, least: u64, most: u64) -> Option<u64>
-    ensures { result ≡ spec.number_within least most integer }
+    ensures value { result ≡ spec.number_within least most integer }
+    ensures within { IfSome result (λ number. (least ≤ number) × (number ≤ most)) }
 {
     let Ok(number) = u64::try_from(integer) else {
         return None;
