@@ -1,2 +1,5 @@
+pub mod Counting
 pub mod Failing
+pub mod Finding
+pub mod Naming
 pub mod Stating

@@ -8,7 +8,10 @@ use Rattle.dip_lists.specs.First.{Check}
 use Rattle.dip_graph.specs.declared.design.Design.{Design}
 use Rattle.toml_shape.specs.Shapes.{tables_under}
 use Rattle.toml_shape.specs.Numbers.{is_named}
+use Rattle.dip_graph.specs.declared.design.NodeEntry.{NodeEntry}
+use Rattle.dip_graph.specs.declared.design.BindEntry.{BindEntry}
 use Rattle.soc_design.specs.declared.limits.Heading.{Heading}
+use Rattle.soc_design.specs.declared.limits.LimitedFile.{LimitedFile}
 use Rattle.soc_design.specs.Shape.{top_has_shape, module_has_shape, node_has_shape, bind_has_shape}
 use Rattle.soc_design.specs.Stated.{all_of, heading_of, node_of, name_at, names_at, is_in_top, bind_of}
 
@@ -77,12 +80,14 @@ node_is_beyond place d = nat_le most_nodes place || is_none (node_of d)
 abbrev pub bind_is_beyond : ℕ → Data → Bool
 bind_is_beyond place d = nat_le most_binds place
 
+abbrev pub beyond_nodes : Members → List ℕ
+beyond_nodes ms = failing node_is_beyond 0 (first_node ms) (nodes_in ms)
+
+abbrev pub beyond_binds : Members → List ℕ
+beyond_binds ms = failing bind_is_beyond 0 (first_bind ms) (binds_in ms)
+
 abbrev pub limit_checks : Members → List Check
-limit_checks ms =
-    check 3 (at_top (top_is_beyond ms))
-    ∷ check 3 (failing node_is_beyond 0 (first_node ms) (nodes_in ms))
-    ∷ check 3 (failing bind_is_beyond 0 (first_bind ms) (binds_in ms))
-    ∷ []
+limit_checks ms = check 3 (at_top (top_is_beyond ms)) ∷ check 3 (beyond_nodes ms) ∷ check 3 (beyond_binds ms) ∷ []
 
 -- ---- check 4: the names
 
@@ -102,11 +107,21 @@ node_is_unnamed top names place d = is_named (take place names) (name_at d) || n
 abbrev pub bind_is_unnamed : List (List ℕ) → ℕ → Data → Bool
 bind_is_unnamed names place d = is_none (bind_of names d)
 
+abbrev pub unnamed_nodes : List ℕ → ℕ → Items → List ℕ
+unnamed_nodes top entry ds = failing (node_is_unnamed top (names_at ds)) 0 entry ds
+
+abbrev pub unnamed_nodes_in : List ℕ → Members → List ℕ
+unnamed_nodes_in top ms = unnamed_nodes top (first_node ms) (nodes_in ms)
+
+abbrev pub unnamed_binds_in : List (List ℕ) → Members → List ℕ
+unnamed_binds_in names ms = failing (bind_is_unnamed names) 0 (first_bind ms) (binds_in ms)
+
+-- the checks of names in a design of this name
+abbrev pub named_checks : List ℕ → Members → List Check
+named_checks top ms = check 4 (unnamed_nodes_in top ms) ∷ check 4 (unnamed_binds_in (node_names ms) ms) ∷ []
+
 abbrev pub name_checks : Members → List Check
-name_checks ms =
-    check 4 (failing (node_is_unnamed (heading_name (heading_of ms)) (node_names ms)) 0 (first_node ms) (nodes_in ms))
-    ∷ check 4 (failing (bind_is_unnamed (node_names ms)) 0 (first_bind ms) (binds_in ms))
-    ∷ []
+name_checks ms = named_checks (heading_name (heading_of ms)) ms
 
 -- ---- the file
 
@@ -128,14 +143,26 @@ checks_of_tree (Some ms) = tree_checks ms
 abbrev pub file_checks : List ℕ → List Check
 file_checks bytes = checks_of_tree (tree_of bytes)
 
+-- the design with this heading and these nodes and binds; its only module is the top one
+abbrev pub design_with : LimitedFile → List BindEntry → Design
+design_with file binds =
+    record {
+      name = file.heading.name;
+      policy = file.heading.policy;
+      modules = record { name = file.heading.name; parent = 0 } ∷ [];
+      nodes = file.nodes;
+      binds = binds;
+    }
+
+abbrev pub design_from : Option Heading → Option (List NodeEntry) → Option (List BindEntry) → Option Design
+design_from (Some heading) (Some nodes) (Some binds) = Some (design_with (record { heading = heading; nodes = nodes }) binds)
+design_from (Some heading) (Some nodes) None = None
+design_from (Some heading) None binds = None
+design_from None nodes binds = None
+
 -- the design that a tree states
 abbrev pub design_of : Members → Option Design
-design_of ms =
-    option_and_then (λ heading. option_and_then (λ nodes. option_map (λ binds.
-        record { name = heading.name; policy = heading.policy; modules = record { name = heading.name; parent = 0 } ∷ []; nodes = nodes; binds = binds })
-    (all_of (bind_of (node_names ms)) (binds_in ms)))
-    (all_of node_of (nodes_in ms)))
-    (heading_of ms)
+design_of ms = design_from (heading_of ms) (all_of node_of (nodes_in ms)) (all_of (bind_of (node_names ms)) (binds_in ms))
 
 abbrev pub stated_design : List ℕ → Option Design
 stated_design bytes = option_and_then design_of (tree_of bytes)

@@ -2,7 +2,9 @@
 #![tactic(auto)]
 
 mod limits;
+mod names;
+mod read;
 mod shape;
 mod tables;
 
-pub use limits::Heading;
+pub use read::read_design;

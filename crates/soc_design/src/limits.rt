@@ -1,13 +1,14 @@
-ghost use Rattle.std.specs.Prelude.{◌≡◌, ◌≤◌, ◌<◌, ◌^◌, ◌+◌, length, IsTrue, IfOk, IfErr, IfSome, Some, None};
+ghost use Rattle.std.specs.Prelude.{◌≡◌, ◌≤◌, ◌<◌, ◌^◌, ◌+◌, length, IsTrue, IfOk, IfErr, IfSome, OnOk, Some, None};
 ghost use Rattle.toml.specs.Data.{get_member};
 ghost use Rattle.toml.specs.View.{table_view, view, items_view};
 ghost use Rattle.dip_sets.specs.Names as names;
-ghost use Rattle.dip_lists.specs.First.{first, failure_of};
+ghost use Rattle.dip_lists.specs.First.{first, first_failing, failure_of};
 ghost use Rattle.std.specs.Option.{option_map};
 ghost use Rattle.soc_design.specs.Stated as spec;
 ghost use Rattle.soc_design.specs.Faults.{IsFaultOf};
-ghost use Rattle.soc_design.specs.Reading.{failing, node_is_beyond};
+ghost use Rattle.soc_design.specs.Reading.{count, nodes_in, failing, at_top, top_is_beyond, node_is_beyond, bind_is_beyond, beyond_nodes, beyond_binds, limit_checks};
 
+use crate::tables::{first_bind, first_node, tables_in};
 use dip_graph::{Fault, NodeEntry, NodeKind, Nodes};
 use dip_lists::{Few, Items, Memory};
 use dip_sets::{AddressSet, Name, Sizes};
@@ -28,6 +29,8 @@ const MOST_SETS: usize = 16;
 const MOST_PORTS: usize = 64;
 /// The most nodes of a design.
 const MOST_NODES: usize = 256;
+/// The most binds of a design.
+const MOST_BINDS: usize = 1024;
 
 /// What the top table of a design file states besides its arrays.
 #[derive(Drop)]
@@ -238,13 +241,13 @@ fn node_of(alloc: Global, value: &Value) -> Result<Option<NodeEntry>, Memory>
     Ok(Some(NodeEntry { name, module: 0, kind }))
 }
 
-/// The nodes that some tables state, the first of which is the entry `entry`.
-///
-/// `Fault::Check` names check 3 and the first table past the allowed number, or with a number beyond its limits.
-pub fn nodes_in(alloc: Global, nodes: &[Value], entry: u64) -> Result<Nodes, Fault>
+// The nodes that some tables state, the first of which is the entry `entry`. `Fault::Check` names check 3 and the first
+// table past the allowed number, or with a number beyond its limits.
+fn stated_nodes(alloc: Global, nodes: &[Value], entry: u64) -> Result<Nodes, Fault>
     requires { entry + length nodes.now < 2 ^ 64 }
     ensures ok { IfOk result (λ stated. spec.all_of spec.node_of (items_view nodes.now) ≡ Some stated) }
-    ensures passes { IfOk result (λ stated. first (failing node_is_beyond 0 entry (items_view nodes.now)) ≡ None) }
+    ensures passes { IfOk result (λ _. first (failing node_is_beyond 0 entry (items_view nodes.now)) ≡ None) }
+    ensures few { IfOk result (λ _. length nodes.now ≤ 256) }
     ensures err { IfErr result (IsFaultOf (option_map (failure_of 3) (first (failing node_is_beyond 0 entry (items_view nodes.now))))) }
 {
     let mut stated = Items::new(alloc);
@@ -264,6 +267,18 @@ pub fn nodes_in(alloc: Global, nodes: &[Value], entry: u64) -> Result<Nodes, Fau
     Ok(stated)
 }
 
+// The first bind past the allowed number.
+fn bind_beyond(binds: &[Value], entry: u64) -> Option<u64>
+    requires { entry + length binds.now < 2 ^ 64 }
+    ensures { result ≡ first (failing bind_is_beyond 0 entry (items_view binds.now)) }
+{
+    if binds.len() > MOST_BINDS {
+        Some(entry + MOST_BINDS as u64)
+    } else {
+        None
+    }
+}
+
 fn policy_of(table: &Table) -> Option<Policy>
     ensures { result ≡ spec.policy_in (table_view table.now) }
 {
@@ -278,8 +293,8 @@ fn policy_of(table: &Table) -> Option<Policy>
     }
 }
 
-/// What the top table states; `None` where the version isn't 1.
-pub fn heading_of(alloc: Global, table: &Table) -> Result<Option<Heading>, Memory>
+// What the top table states.
+fn heading_of(alloc: Global, table: &Table) -> Result<Option<Heading>, Memory>
     ensures { IfOk result (λ heading. heading ≡ spec.heading_of (table_view table.now)) }
 {
     if number_under(table, "version", 1, 1).is_none() {
@@ -293,4 +308,62 @@ pub fn heading_of(alloc: Global, table: &Table) -> Result<Option<Heading>, Memor
     };
     let name = named(alloc, text)?;
     Ok(Some(Heading { name, policy }))
+}
+
+/// What a file states within the limits.
+#[derive(Drop)]
+pub struct LimitedFile {
+    pub heading: Heading,
+    pub nodes: Nodes,
+}
+
+// The heading of a file of version 1 with nodes.
+fn heading_within(alloc: Global, table: &Table) -> Result<Heading, Fault>
+    ensures ok { IfOk result (λ heading. spec.heading_of (table_view table.now) ≡ Some heading) }
+    ensures passes { IfOk result (λ _. first (at_top (top_is_beyond (table_view table.now))) ≡ None) }
+    ensures err { IfErr result (IsFaultOf (option_map (failure_of 3) (first (at_top (top_is_beyond (table_view table.now)))))) }
+{
+    let beyond = Fault::Check { number: 3, subject: 0 };
+    let Some(heading) = heading_of(alloc, table)? else {
+        return Err(beyond);
+    };
+    if tables_in(table, "node").is_empty() {
+        return Err(beyond);
+    }
+    Ok(heading)
+}
+
+// The nodes of a file.
+fn nodes_within(alloc: Global, table: &Table) -> Result<Nodes, Fault>
+    ensures ok { IfOk result (λ nodes. spec.all_of spec.node_of (nodes_in (table_view table.now)) ≡ Some nodes) }
+    ensures few { IfOk result (λ _. count (nodes_in (table_view table.now)) ≤ 256) }
+    ensures passes { IfOk result (λ _. first (beyond_nodes (table_view table.now)) ≡ None) }
+    ensures err { IfErr result (IsFaultOf (option_map (failure_of 3) (first (beyond_nodes (table_view table.now))))) }
+{
+    stated_nodes(alloc, tables_in(table, "node"), first_node(table))
+}
+
+// A file without a bind past the allowed number.
+fn binds_within(table: &Table) -> Result<(), Fault>
+    ensures passes { OnOk result (first (beyond_binds (table_view table.now)) ≡ None) }
+    ensures err { IfErr result (IsFaultOf (option_map (failure_of 3) (first (beyond_binds (table_view table.now))))) }
+{
+    match bind_beyond(tables_in(table, "bind"), first_bind(table)) {
+        Some(subject) => Err(Fault::Check { number: 3, subject }),
+        None => Ok(()),
+    }
+}
+
+/// The top table and the nodes of a file; `Fault::Check` names check 3 and the first entry beyond the limits.
+pub fn limited(alloc: Global, table: &Table) -> Result<LimitedFile, Fault>
+    ensures heading { IfOk result (λ file. spec.heading_of (table_view table.now) ≡ Some file.heading) }
+    ensures nodes { IfOk result (λ file. spec.all_of spec.node_of (nodes_in (table_view table.now)) ≡ Some file.nodes) }
+    ensures few { IfOk result (λ _. count (nodes_in (table_view table.now)) ≤ 256) }
+    ensures passes { IfOk result (λ _. first_failing (limit_checks (table_view table.now)) ≡ None) }
+    ensures err { IfErr result (IsFaultOf (first_failing (limit_checks (table_view table.now)))) }
+{
+    let heading = heading_within(alloc, table)?;
+    let nodes = nodes_within(alloc, table)?;
+    binds_within(table)?;
+    Ok(LimitedFile { heading, nodes })
 }

@@ -2,10 +2,12 @@ ghost use Rattle.std.specs.Prelude.{◌≡◌, ◌+◌, ◌<◌, ◌^◌, length
 ghost use Rattle.toml.specs.Data.{get_member};
 ghost use Rattle.toml.specs.View.{table_view, view, items_view};
 ghost use Rattle.toml_shape.specs.Shapes.{has};
-ghost use Rattle.dip_lists.specs.First.{first};
+ghost use Rattle.std.specs.Option.{option_map};
+ghost use Rattle.dip_lists.specs.First.{first, first_failing, failure_of};
 ghost use Rattle.soc_design.specs.Shape as spec;
-ghost use Rattle.soc_design.specs.Reading.{failing};
+ghost use Rattle.soc_design.specs.Reading.{failing, shape_checks};
 
+use crate::tables::{first_bind, first_node, tables_in};
 use toml::{Table, Value};
 use toml_shape::{
     integer_under, keys_among, may_have_integer, may_have_name, may_have_text, name_under, pair, tables_under,
@@ -174,4 +176,20 @@ fn misshapen_bind(binds: &[Value], entry: u64) -> Option<u64>
         }
     }
     None
+}
+
+/// The first entry that hasn't the shape of its table.
+pub fn misshapen_entry(table: &Table) -> Option<u64>
+    ensures { option_map (failure_of 2) result ≡ first_failing (shape_checks (table_view table.now)) }
+{
+    if !top_has_shape(table) {
+        return Some(0);
+    }
+    if let Some(entry) = misshapen_module(tables_in(table, "module")) {
+        return Some(entry);
+    }
+    if let Some(entry) = misshapen_node(tables_in(table, "node"), first_node(table)) {
+        return Some(entry);
+    }
+    misshapen_bind(tables_in(table, "bind"), first_bind(table))
 }

@@ -1,4 +1,4 @@
-ghost use Rattle.std.specs.Prelude.{◌≡◌};
+ghost use Rattle.std.specs.Prelude.{◌≡◌, ◌<◌, ◌^◌};
 ghost use Rattle.toml.specs.View.{table_view, items_view};
 ghost use Rattle.soc_design.specs.Reading as spec;
 
@@ -13,4 +13,20 @@ pub fn tables_in<'a>(table: &'a Table, key: &str) -> &'a [Value]
         Some(tables) => tables,
         None => &[],
     }
+}
+
+/// The entry of the first node: the top table is entry 0, and the modules stand before.
+pub fn first_node(table: &Table) -> u64
+    ensures value { result ≡ spec.first_node (table_view table.now) }
+    ensures room { result < 2 ^ 61 }
+{
+    1 + tables_in(table, "module").len() as u64
+}
+
+/// The entry of the first bind: the nodes stand before.
+pub fn first_bind(table: &Table) -> u64
+    ensures value { result ≡ spec.first_bind (table_view table.now) }
+    ensures room { result < 2 ^ 62 }
+{
+    first_node(table) + tables_in(table, "node").len() as u64
 }

@@ -4,12 +4,13 @@ use Rattle.soc_design.specs.Stated as spec
 use Rattle.soc_design.specs.Reading.{node_is_beyond, most_nodes}
 use Rattle.soc_design.proofs.Failing.{passes}
 use Rattle.soc_design.proofs.Stating.{states_more, within}
-use Rattle.soc_design.proofs.limits.nodes_in.Goals as goal
+use Rattle.soc_design.proofs.limits.stated_nodes.Goals as goal
 
 pub loop-place-preserved : goal.loop-place-preserved
 loop-place-preserved c =
     let states = sym c.in_ok-node.ensures ∙ c.in-Some.is in
     record {
+      few = omega arith;
       stated =
         rw c.in_ok-push.ensures.ok
         (states_more spec.node_of c.loop-place.place c.args.nodes.now c.index-nodes-place.result _ _ c.index-nodes-place.is c.loop-place-test.true states
