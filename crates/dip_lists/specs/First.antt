@@ -24,7 +24,7 @@ abbrev pub first_failing : List Check → Option Failure
 first_failing [] = None
 first_failing (check ∷ checks) = option_or (option_map (failure_of check.number) (first check.failing)) (first_failing checks)
 
--- the subjects, counted from a first one, at which a test holds
-abbrev pub places : {A : Type 0} → (A → Bool) → ℕ → List A → List ℕ
-places test from [] = []
-places test from (x ∷ xs) = cond (test x) (from ∷ places test (from + 1) xs) (places test (from + 1) xs)
+-- the subjects, counted from a first one, at which a test fails; the test sees a subject's number and the item itself
+abbrev pub places : {A : Type 0} → (ℕ → A → Bool) → ℕ → List A → List ℕ
+places fails subject [] = []
+places fails subject (x ∷ xs) = cond (fails subject x) (subject ∷ places fails (subject + 1) xs) (places fails (subject + 1) xs)

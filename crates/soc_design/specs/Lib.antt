@@ -1,4 +1,3 @@
 pub mod Shape
 pub mod Stated
 pub mod Reading
-pub mod Faults

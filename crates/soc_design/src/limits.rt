@@ -5,7 +5,7 @@ ghost use Rattle.dip_sets.specs.Names as names;
 ghost use Rattle.dip_lists.specs.First.{first, first_failing, failure_of};
 ghost use Rattle.std.specs.Option.{option_map};
 ghost use Rattle.soc_design.specs.Stated as spec;
-ghost use Rattle.soc_design.specs.Faults.{IsFaultOf};
+ghost use Rattle.dip_graph.specs.Faults.{IsFaultOf};
 ghost use Rattle.soc_design.specs.Reading.{count, nodes_in, failing, at_top, top_is_beyond, node_is_beyond, bind_is_beyond, beyond_nodes, beyond_binds, limit_checks};
 
 use crate::tables::{first_bind, first_node, tables_in};

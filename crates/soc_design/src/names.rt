@@ -3,7 +3,7 @@ ghost use Rattle.std.specs.Option.{option_map};
 ghost use Rattle.toml.specs.View.{table_view, view, items_view};
 ghost use Rattle.dip_lists.specs.First.{first, first_failing, failure_of};
 ghost use Rattle.soc_design.specs.Stated as spec;
-ghost use Rattle.soc_design.specs.Faults.{IsFaultOf};
+ghost use Rattle.dip_graph.specs.Faults.{IsFaultOf};
 ghost use Rattle.soc_design.specs.Reading as reading;
 ghost use Rattle.soc_design.specs.Reading.{failing, unnamed_nodes, bind_is_unnamed};
 

@@ -4,10 +4,10 @@ use Rattle.std.proofs.lemmas.Result.{err_from_is_err_and}
 use Rattle.toml.specs.View.{table_view}
 use Rattle.dip_lists.specs.First.{failure_of, first_failing}
 use Rattle.dip_lists.proofs.Firsts.{fails_first}
-use Rattle.soc_design.specs.Faults.{IsFaultOf}
+use Rattle.dip_graph.specs.Faults.{IsFaultOf}
 use Rattle.soc_design.specs.Stated.{heading_of}
 use Rattle.soc_design.specs.Reading.{shape_checks, limit_checks, name_checks, named_checks, heading_name}
-use Rattle.soc_design.proofs.Finding.{in_first, in_second, both_pass}
+use Rattle.dip_graph.proofs.Finding.{in_first, in_second, both_pass}
 use Rattle.soc_design.proofs.read.design_in.Goals as goal
 
 pub returns-in-Some-clause-err : goal.returns-in-Some-clause-err

@@ -5,7 +5,7 @@ use Rattle.dip_lists.specs.First.{Check as CheckOf, Failure, failure_of, first_f
 use Rattle.dip_lists.proofs.Firsts.{passes_first, fails_first}
 use Rattle.dip_graph.specs.declared.fault.Fault.{Fault}
 use Rattle.dip_graph.specs.declared.fault.Fault.TheVariants.{Check, Memory}
-use Rattle.soc_design.specs.Faults.{IsFaultOf}
+use Rattle.dip_graph.specs.Faults.{IsFaultOf}
 
 -- the first that fails decides
 pub decides : (found later : Option Failure) (fault : Fault) → IsFaultOf found fault → IsFaultOf (option_or found later) fault
