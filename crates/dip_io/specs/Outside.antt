@@ -22,12 +22,12 @@ abbrev pub Rose : ℕ → ℕ → Type 0
 Rose before now = (before < now) ⊎ (2 ^ 64 - 1 ≤ now)
 
 -- the count of loads of this name that have failed rose
-abbrev pub LoadCountRose : List ℕ → FilesSeen → FilesSeen → Type 0
-LoadCountRose name before now = Rose (before.loads name) (now.loads name)
+abbrev pub LoadsRose : List ℕ → FilesSeen → FilesSeen → Type 0
+LoadsRose name before now = Rose (before.loads name) (now.loads name)
 
 -- the count of saves of this name that have failed rose
-abbrev pub SaveCountRose : List ℕ → FilesSeen → FilesSeen → Type 0
-SaveCountRose name before now = Rose (before.saves name) (now.saves name)
+abbrev pub SavesRose : List ℕ → FilesSeen → FilesSeen → Type 0
+SavesRose name before now = Rose (before.saves name) (now.saves name)
 
 -- no count of a name is lower than before
 abbrev pub NoneFell : (List ℕ → ℕ) → (List ℕ → ℕ) → Type 0

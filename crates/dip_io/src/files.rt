@@ -1,5 +1,5 @@
 ghost use Rattle.std.specs.Prelude.{◌≡◌, OnOk, OnErr};
-ghost use Rattle.dip_io.specs.Outside.{FilesSeen, LoadCountRose, Loads, NoneFell, OthersSame, SameContent, SaveCountRose, Saves};
+ghost use Rattle.dip_io.specs.Outside.{FilesSeen, LoadsRose, Loads, NoneFell, OthersSame, SameContent, SavesRose, Saves};
 
 use thiserror::Error;
 
@@ -36,7 +36,7 @@ pub trait Files {
         ensures content { SameContent (seen self.old) (seen self.new) }
         ensures loads { NoneFell (seen self.old).loads (seen self.new).loads }
         ensures saves { NoneFell (seen self.old).saves (seen self.new).saves }
-        ensures cause { result ≡ Err LoadFault.Failed → LoadCountRose name.now (seen self.old) (seen self.new) };
+        ensures cause { result ≡ Err LoadFault.Failed → LoadsRose name.now (seen self.old) (seen self.new) };
 
     /// Puts these bytes in the place of what the named file held.
     ///
@@ -46,5 +46,5 @@ pub trait Files {
         ensures others { OthersSame name.now (seen self.old) (seen self.new) }
         ensures loads { NoneFell (seen self.old).loads (seen self.new).loads }
         ensures saves { NoneFell (seen self.old).saves (seen self.new).saves }
-        ensures cause { OnErr result (SaveCountRose name.now (seen self.old) (seen self.new)) };
+        ensures cause { OnErr result (SavesRose name.now (seen self.old) (seen self.new)) };
 }
