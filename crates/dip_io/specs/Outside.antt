@@ -41,7 +41,7 @@ SameContent before now = (name : List ℕ) → now.content name ≡ before.conte
 abbrev pub OthersSame : List ℕ → FilesSeen → FilesSeen → Type 0
 OthersSame saved before now = (name : List ℕ) → name ≢ saved → now.content name ≡ before.content name
 
--- these are the first `max` bytes of a file, or all where it is shorter, as far as it is told; no file has none
+-- these are the first `max` bytes of a file, or all where it is shorter, as far as it is told; a missing file has none
 abbrev pub AreFirst : ℕ → Told → List ℕ → Type 0
 AreFirst max told bytes =
     (length bytes ≤ max) × MatchOption told (Unit {0}) (λ file. MatchOption file ⊥ (λ all. bytes ≡ take max all))
