@@ -1,10 +1,40 @@
--- What the files and the output in memory hold.
-use Rattle.std.specs.Prelude.{ℕ, List, [], ◌∷◌, Option, Some, None, cond}
-use Rattle.std.specs.Str.{bytes_eq}
-use Rattle.std.specs.Option.{option_or}
-use Rattle.dip_io.specs.declared.mem_files.Stored.{Stored}
+-- What files and an output in memory hold, and the calls made on them.
+use Rattle.std.specs.Prelude.{ℕ, ◌≡◌, List, Option, Some}
+use Rattle.std.specs.Option.{option_map}
+use Rattle.std.specs.BTreeMap.{get_by_text}
+use Rattle.dip_io.specs.Outside.{FilesSeen, OutSeen}
+use Rattle.dip_io.specs.declared.calls.Calls.{Calls}
+use Rattle.dip_io.specs.declared.mem_files.MemFiles.{MemFiles}
+use Rattle.dip_io.specs.declared.mem_out.MemOut.{MemOut}
 
--- the bytes that were stored last under a name
-abbrev pub file_at : List Stored → List ℕ → Option (List ℕ)
-file_at [] name = None
-file_at (file ∷ files) name = option_or (file_at files name) (cond (bytes_eq file.name name) (Some file.bytes) None)
+-- the bytes that a name holds, if there is such a file
+abbrev pub held_by : MemFiles → List ℕ → Option (List ℕ)
+held_by files name = option_map (λ bytes. bytes.items) (get_by_text files.contents name)
+
+-- every name holds what it held
+abbrev pub HoldSame : MemFiles → MemFiles → Type 0
+HoldSame before now = (name : List ℕ) → held_by now name ≡ held_by before name
+
+-- the loads and saves, counted together
+abbrev pub calls_on : MemFiles → Calls
+calls_on files = files.calls
+
+-- everything is told, with one count of faults for all names
+abbrev pub files_seen : MemFiles → FilesSeen
+files_seen files = record { content = λ name. Some (held_by files name); loads = λ _. files.calls.failed; saves = λ _. files.calls.failed }
+
+-- the bytes written so far
+abbrev pub written_to : MemOut → List ℕ
+written_to out = out.bytes.items
+
+-- the most bytes that one put takes
+abbrev pub most_of : MemOut → ℕ
+most_of out = out.most
+
+-- the puts
+abbrev pub puts_on : MemOut → Calls
+puts_on out = out.puts
+
+-- everything is told
+abbrev pub out_seen : MemOut → OutSeen
+out_seen out = record { written = Some (written_to out); faults = out.puts.failed }

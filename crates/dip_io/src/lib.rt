@@ -2,6 +2,7 @@
 //! implementations in memory and on the system.
 #![tactic(auto)]
 
+mod calls;
 mod files;
 mod mem_files;
 mod mem_out;

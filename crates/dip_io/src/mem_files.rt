@@ -1,134 +1,117 @@
-ghost use Rattle.std.specs.Prelude.{◌≡◌, ◌≢◌, ℕ, List, Some, None, OnOk, OnErr, IfOk};
+ghost use Rattle.std.specs.Prelude.{◌≡◌, ◌≢◌, ◌⊎◌, ◌↔◌, ℕ, List, Some, None, OnOk, OnErr};
 ghost use Rattle.std.specs.Option.{option_map};
-ghost use Rattle.dip_io.specs.InMemory.{file_at};
-ghost use Rattle.dip_io.specs.Outside.{SameContent, OthersSame};
+ghost use Rattle.dip_io.specs.Counting.{FailsNext, after_call, after_failure, failing_at, no_calls};
+ghost use Rattle.dip_io.specs.InMemory.{HoldSame, calls_on, files_seen, held_by};
+ghost use Rattle.dip_io.specs.Outside.{LoadsRose, Loads, NoneFell, OthersSame, SameContent, SavesRose, Saves};
 
+use crate::calls::Calls;
 use crate::{Failed, Files, LoadFault};
-use dip_lists::{Items, Memory};
+use dip_lists::Memory;
 use std::alloc::Global;
+use std::collections::BTreeMap;
 
-// A file in memory.
-#[derive(Debug, Drop)]
-pub struct Stored {
-    pub name: Items<u8>,
-    pub bytes: Items<u8>,
-}
-
-/// Files in memory, which fail at some calls.
+/// Files in memory, which tell everything and fail at the calls that they are told to.
 #[derive(Debug, Drop)]
 pub struct MemFiles {
     alloc: Global,
-    files: Items<Stored>,
-    failing: Items<u64>,
-    calls: u64,
-    faults: u64,
+    contents: BTreeMap<String, Vec<u8>>,
+    calls: Calls,
 }
 
 impl MemFiles {
-    /// No file, and no call that is to fail.
+    /// No file, no call made, and none that is to fail.
     pub fn new(alloc: Global) -> MemFiles
-        ensures { (name : List ℕ) → (⟦<MemFiles as Files>⟧.seen result).content name ≡ Some None }
+        ensures empty { (name : List ℕ) → held_by result name ≡ None }
+        ensures calls { calls_on result ≡ no_calls }
     {
         MemFiles {
             alloc,
-            files: Items::new(alloc),
-            failing: Items::new(alloc),
-            calls: 0,
-            faults: 0,
+            contents: BTreeMap::new(alloc),
+            calls: Calls::new(alloc),
         }
     }
 
     /// The bytes of a file; `None` exactly where there is no such file.
     pub fn get(&self, name: &str) -> Option<&[u8]>
-        ensures { (⟦<MemFiles as Files>⟧.seen self.now).content name.now ≡ Some (option_map (λ bytes. bytes.now) result) }
+        ensures { option_map (λ bytes. bytes.now) result ≡ held_by self.now name.now }
     {
-        find(self.files.as_slice(), name)
-    }
-
-    /// Puts these bytes in the place of what the named file held.
-    pub fn set(&mut self, name: &str, bytes: &[u8]) -> Result<(), Memory>
-        ensures same { OnOk result ((⟦<MemFiles as Files>⟧.seen self.new).content name.now ≡ Some (Some bytes.now)) }
-        ensures others { OthersSame name.now (⟦<MemFiles as Files>⟧.seen self.old) (⟦<MemFiles as Files>⟧.seen self.new) }
-        ensures err { OnErr result (self.new ≡ self.old) }
-    {
-        set(self.alloc, &mut self.files, name, bytes)
-    }
-
-    /// The load or save with this number is to fail.
-    pub fn fail_at(&mut self, call: u64) -> Result<(), Memory>
-        ensures content { SameContent (⟦<MemFiles as Files>⟧.seen self.old) (⟦<MemFiles as Files>⟧.seen self.new) }
-        ensures err { OnErr result (self.new ≡ self.old) }
-    {
-        self.failing.push(call)
-    }
-
-    fn counts(&mut self) -> bool
-        ensures files { self.new.files ≡ self.old.files }
-        ensures faults { self.new.faults ≡ self.old.faults }
-    {
-        self.calls = self.calls.saturating_add(1);
-        self.failing.as_slice().contains(&self.calls)
-    }
-}
-
-// The bytes that were stored last under a name.
-fn find<'a>(files: &'a [Stored], name: &str) -> Option<&'a [u8]>
-    ensures { option_map (λ bytes. bytes.now) result ≡ file_at files.now name.now }
-{
-    let mut found = None;
-    for file in files {
-        if file.name.as_slice() == name.as_bytes() {
-            found = Some(file.bytes.as_slice());
+        match self.contents.get(name) {
+            None => None,
+            Some(bytes) => Some(bytes.as_slice()),
         }
     }
-    found
-}
 
-fn copied(alloc: Global, bytes: &[u8]) -> Result<Items<u8>, Memory>
-    ensures { IfOk result (λ copy. copy ≡ bytes.now) }
-{
-    Ok(Items::from_vec(Vec::from_slice(alloc, bytes)?))
-}
+    /// Puts these bytes in the place of what the named file held. This is no call that is counted.
+    #[tactic(auto, using(std::proofs::lemmas::Map::Text::text_keys))]
+    pub fn set(&mut self, name: &str, bytes: &[u8]) -> Result<(), Memory>
+        ensures ok { OnOk result (held_by self.new name.now ≡ Some bytes.now) }
+        ensures others { (other : List ℕ) → other ≢ name.now → held_by self.new other ≡ held_by self.old other }
+        ensures calls { calls_on self.new ≡ calls_on self.old }
+        ensures err { OnErr result (HoldSame self.old self.new) }
+    {
+        let name = String::from_str(self.alloc, name)?;
+        let bytes = Vec::from_slice(self.alloc, bytes)?;
+        self.contents.insert(name, bytes)?;
+        Ok(())
+    }
 
-#[tactic(auto, using(crate::proofs::Stored::pushed_same, crate::proofs::Stored::pushed_other))]
-fn set(alloc: Global, files: &mut Items<Stored>, name: &str, bytes: &[u8]) -> Result<(), Memory>
-    ensures same { OnOk result (file_at files.new name.now ≡ Some bytes.now) }
-    ensures others { OnOk result ((other : List ℕ) → other ≢ name.now → file_at files.new other ≡ file_at files.old other) }
-    ensures err { OnErr result (files.new ≡ files.old) }
-{
-    let name = copied(alloc, name.as_bytes())?;
-    let bytes = copied(alloc, bytes)?;
-    files.push(Stored { name, bytes })
+    /// The load or save with this number is to fail. They are counted together, from 1.
+    pub fn fail_at(&mut self, call: u64) -> Result<(), Memory>
+        ensures ok { OnOk result (calls_on self.new ≡ failing_at call (calls_on self.old)) }
+        ensures content { HoldSame self.old self.new }
+        ensures err { OnErr result (self.new ≡ self.old) }
+    {
+        self.calls.fail_at(call)
+    }
 }
 
 impl Files for MemFiles {
-    ghost seen = { λ f. record {
-      content = λ name. Some (file_at f.files name);
-      loads = λ name. f.faults;
-      saves = λ name. f.faults;
-    } };
+    ghost seen = { files_seen };
 
-    fn load(&mut self, name: &str, max: usize, into: &mut Vec<u8>) -> Result<(), LoadFault> {
-        let fails = self.counts();
-        match find(self.files.as_slice(), name) {
+    fn load(&mut self, name: &str, max: usize, into: &mut Vec<u8>) -> Result<(), LoadFault>
+        ensures ok { OnOk result (Loads max name.now (files_seen self.old) into.old.items into.new.items) }
+        ensures refused { OnErr result (into.new.items ≡ into.old.items) }
+        ensures content { SameContent (files_seen self.old) (files_seen self.new) }
+        ensures loads { NoneFell (files_seen self.old).loads (files_seen self.new).loads }
+        ensures saves { NoneFell (files_seen self.old).saves (files_seen self.new).saves }
+        ensures cause { result ≡ Err LoadFault.Failed → LoadsRose name.now (files_seen self.old) (files_seen self.new) }
+
+        ensures due { (result ≡ Err LoadFault.Failed) ↔ (FailsNext (calls_on self.old) ⊎ (held_by self.old name.now ≡ None)) }
+        ensures failed { result ≡ Err LoadFault.Failed → calls_on self.new ≡ after_failure (calls_on self.old) }
+        ensures passed { result ≢ Err LoadFault.Failed → calls_on self.new ≡ after_call (calls_on self.old) }
+    {
+        let fails = self.calls.begin();
+        match self.get(name) {
             Some(bytes) if !fails => {
                 let count = bytes.len().min(max);
                 into.extend_from_slice(&bytes[..count])
                     .map_err(|_| LoadFault::Memory)
             }
             _ => {
-                self.faults = self.faults.saturating_add(1);
+                self.calls.count_failure();
                 Err(LoadFault::Failed)
             }
         }
     }
 
-    fn save(&mut self, name: &str, bytes: &[u8]) -> Result<(), Failed> {
-        let fails = self.counts();
-        if !fails && let Ok(()) = set(self.alloc, &mut self.files, name, bytes) {
+    fn save(&mut self, name: &str, bytes: &[u8]) -> Result<(), Failed>
+        ensures ok { OnOk result (Saves name.now bytes.now (files_seen self.old) (files_seen self.new)) }
+        ensures others { OthersSame name.now (files_seen self.old) (files_seen self.new) }
+        ensures loads { NoneFell (files_seen self.old).loads (files_seen self.new).loads }
+        ensures saves { NoneFell (files_seen self.old).saves (files_seen self.new).saves }
+        ensures cause { OnErr result (SavesRose name.now (files_seen self.old) (files_seen self.new)) }
+
+        ensures due { OnOk result (FailsNext (calls_on self.old) → ⊥) }
+        ensures kept { OnErr result (HoldSame self.old self.new) }
+        ensures failed { OnErr result (calls_on self.new ≡ after_failure (calls_on self.old)) }
+        ensures passed { OnOk result (calls_on self.new ≡ after_call (calls_on self.old)) }
+    {
+        if !self.calls.begin()
+            && let Ok(()) = self.set(name, bytes)
+        {
             return Ok(());
         }
-        self.faults = self.faults.saturating_add(1);
+        self.calls.count_failure();
         Err(Failed)
     }
 }

@@ -1,60 +1,80 @@
-ghost use Rattle.std.specs.Prelude.{◌≡◌, ◌<◌, Some, OnErr};
+ghost use Rattle.std.specs.Prelude.{◌≡◌, ◌<◌, ◌≤◌, [], length, min, take, IfOk, OnOk, OnErr};
+ghost use Rattle.dip_io.specs.Outside.{Rose, Writes};
 
+use crate::calls::Calls;
 use crate::{Failed, Out};
-use dip_lists::{Items, Memory};
+use dip_lists::Memory;
 use std::alloc::Global;
 
-/// An output in memory, which fails at some calls.
+/// An output in memory, which tells everything and fails at the calls that it is told to.
 #[derive(Debug, Drop)]
 pub struct MemOut {
     bytes: Vec<u8>,
     most: usize,
-    failing: Items<u64>,
-    calls: u64,
-    faults: u64,
+    puts: Calls,
     ghost takes_some: { 0 < most },
 }
 
 impl MemOut {
-    /// Nothing written, and no call that is to fail. One `put` takes at most `most` bytes.
+    ghost use Rattle.dip_io.specs.Counting.{failing_at, no_calls};
+    ghost use Rattle.dip_io.specs.InMemory.{most_of, puts_on, written_to};
+
+    /// Nothing written, no put made, and none that is to fail. One `put` takes at most `most` bytes.
     pub fn new(alloc: Global, most: usize) -> MemOut
         requires { 0 < most }
+        ensures empty { written_to result ≡ [] }
+        ensures most { most_of result ≡ most }
+        ensures puts { puts_on result ≡ no_calls }
     {
         MemOut {
             bytes: Vec::new(alloc),
             most,
-            failing: Items::new(alloc),
-            calls: 0,
-            faults: 0,
+            puts: Calls::new(alloc),
         }
     }
 
-    /// The put with this number is to fail.
+    /// The put with this number, counted from 1, is to fail.
     pub fn fail_at(&mut self, call: u64) -> Result<(), Memory>
-        ensures written { ⟦<MemOut as Out>⟧.seen self.new ≡ ⟦<MemOut as Out>⟧.seen self.old }
+        ensures ok { OnOk result (puts_on self.new ≡ failing_at call (puts_on self.old)) }
+        ensures written { written_to self.new ≡ written_to self.old }
+        ensures most { most_of self.new ≡ most_of self.old }
         ensures err { OnErr result (self.new ≡ self.old) }
     {
-        self.failing.push(call)
+        self.puts.fail_at(call)
     }
 
     /// The bytes written so far.
     pub fn bytes(&self) -> &[u8]
-        ensures { (⟦<MemOut as Out>⟧.seen self.now).written ≡ Some result.now }
+        ensures { result.now ≡ written_to self.now }
     {
         self.bytes.as_slice()
     }
 }
 
 impl Out for MemOut {
-    ghost seen = { λ o. record { written = Some o.bytes.items; faults = o.faults } };
+    ghost use Rattle.dip_io.specs.Counting.{FailsNext, after_call, after_failure};
+    ghost use Rattle.dip_io.specs.InMemory.{most_of, out_seen, puts_on};
 
-    fn put(&mut self, bytes: &[u8]) -> Result<usize, Failed> {
-        self.calls = self.calls.saturating_add(1);
+    ghost seen = { out_seen };
+
+    fn put(&mut self, bytes: &[u8]) -> Result<usize, Failed>
+        ensures within { IfOk result (λ count. count ≤ length bytes.now) }
+        ensures some { IfOk result (λ count. 0 < length bytes.now → 0 < count) }
+        ensures ok { IfOk result (λ count. Writes (take count bytes.now) (out_seen self.old) (out_seen self.new)) }
+        ensures refused { OnErr result ((out_seen self.new).written ≡ (out_seen self.old).written) }
+        ensures later { (out_seen self.old).faults ≤ (out_seen self.new).faults }
+        ensures cause { OnErr result (Rose (out_seen self.old).faults (out_seen self.new).faults) }
+
+        ensures count { IfOk result (λ count. count ≡ min (most_of self.old) (length bytes.now)) }
+        ensures most { most_of self.new ≡ most_of self.old }
+        ensures due { OnOk result (FailsNext (puts_on self.old) → ⊥) }
+        ensures failed { OnErr result (puts_on self.new ≡ after_failure (puts_on self.old)) }
+        ensures passed { OnOk result (puts_on self.new ≡ after_call (puts_on self.old)) }
+    {
+        let fails = self.puts.begin();
         let count = bytes.len().min(self.most);
-        if self.failing.as_slice().contains(&self.calls)
-            || self.bytes.extend_from_slice(&bytes[..count]).is_err()
-        {
-            self.faults = self.faults.saturating_add(1);
+        if fails || self.bytes.extend_from_slice(&bytes[..count]).is_err() {
+            self.puts.count_failure();
             return Err(Failed);
         }
         Ok(count)
