@@ -24,5 +24,5 @@ abbrev pub after_call : Calls → Calls
 after_call calls = record calls { made = next_count calls.made }
 
 -- after one more call, which has failed
-abbrev pub after_failure : Calls → Calls
-after_failure calls = record calls { made = next_count calls.made; failed = next_count calls.failed }
+abbrev pub after_fault : Calls → Calls
+after_fault calls = record calls { made = next_count calls.made; failed = next_count calls.failed }

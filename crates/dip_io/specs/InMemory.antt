@@ -1,7 +1,8 @@
 -- What files and an output in memory hold, and the calls made on them.
-use Rattle.std.specs.Prelude.{ℕ, ◌≡◌, List, Option, Some}
+use Rattle.std.specs.Prelude.{ℕ, ◌≡◌, ◌≢◌, ◌⊎◌, List, Option, Some, None}
 use Rattle.std.specs.Option.{option_map}
 use Rattle.std.specs.BTreeMap.{get_by_text}
+use Rattle.dip_io.specs.Counting.{FailsNext}
 use Rattle.dip_io.specs.Outside.{FilesSeen, OutSeen}
 use Rattle.dip_io.specs.declared.calls.Calls.{Calls}
 use Rattle.dip_io.specs.declared.mem_files.MemFiles.{MemFiles}
@@ -15,9 +16,17 @@ held_by files name = option_map (λ bytes. bytes.items) (get_by_text files.conte
 abbrev pub HoldSame : MemFiles → MemFiles → Type 0
 HoldSame before now = (name : List ℕ) → held_by now name ≡ held_by before name
 
+-- every name but this one holds what it held
+abbrev pub OthersHoldSame : List ℕ → MemFiles → MemFiles → Type 0
+OthersHoldSame name before now = (other : List ℕ) → other ≢ name → held_by now other ≡ held_by before other
+
 -- the loads and saves, counted together
 abbrev pub calls_on : MemFiles → Calls
 calls_on files = files.calls
+
+-- a load of this name is to fail next, or there is no such file
+abbrev pub LoadFails : List ℕ → MemFiles → Type 0
+LoadFails name files = FailsNext (calls_on files) ⊎ (held_by files name ≡ None)
 
 -- everything is told, with one count of faults for all names
 abbrev pub files_seen : MemFiles → FilesSeen

@@ -1,8 +1,8 @@
-ghost use Rattle.std.specs.Prelude.{◌≡◌, ◌≢◌, ◌⊎◌, ◌↔◌, ℕ, List, Some, None, OnOk, OnErr};
+ghost use Rattle.std.specs.Prelude.{◌≡◌, ◌≢◌, ◌≤◌, ◌↔◌, ℕ, List, Some, None, OnOk, OnErr};
 ghost use Rattle.std.specs.Option.{option_map};
-ghost use Rattle.dip_io.specs.Counting.{FailsNext, after_call, after_failure, failing_at, no_calls};
-ghost use Rattle.dip_io.specs.InMemory.{HoldSame, calls_on, files_seen, held_by};
-ghost use Rattle.dip_io.specs.Outside.{LoadsRose, Loads, NoneFell, OthersSame, SameContent, SavesRose, Saves};
+ghost use Rattle.dip_io.specs.Counting.{FailsNext, after_call, after_fault, failing_at, no_calls};
+ghost use Rattle.dip_io.specs.InMemory.{HoldSame, LoadFails, OthersHoldSame, calls_on, files_seen, held_by};
+ghost use Rattle.dip_io.specs.Outside.{Loads};
 
 use crate::calls::Calls;
 use crate::{Failed, Files, LoadFault};
@@ -45,7 +45,7 @@ impl MemFiles {
     #[tactic(auto, using(std::proofs::lemmas::Map::Text::text_keys))]
     pub fn set(&mut self, name: &str, bytes: &[u8]) -> Result<(), Memory>
         ensures ok { OnOk result (held_by self.new name.now ≡ Some bytes.now) }
-        ensures others { (other : List ℕ) → other ≢ name.now → held_by self.new other ≡ held_by self.old other }
+        ensures others { OthersHoldSame name.now self.old self.new }
         ensures calls { calls_on self.new ≡ calls_on self.old }
         ensures err { OnErr result (HoldSame self.old self.new) }
     {
@@ -69,16 +69,14 @@ impl Files for MemFiles {
     ghost seen = { files_seen };
 
     fn load(&mut self, name: &str, max: usize, into: &mut Vec<u8>) -> Result<(), LoadFault>
+        ensures due { (result ≡ Err LoadFault.Failed) ↔ LoadFails name.now self.old }
         ensures ok { OnOk result (Loads max name.now (files_seen self.old) into.old.items into.new.items) }
         ensures refused { OnErr result (into.new.items ≡ into.old.items) }
-        ensures content { SameContent (files_seen self.old) (files_seen self.new) }
-        ensures loads { NoneFell (files_seen self.old).loads (files_seen self.new).loads }
-        ensures saves { NoneFell (files_seen self.old).saves (files_seen self.new).saves }
-        ensures cause { result ≡ Err LoadFault.Failed → LoadsRose name.now (files_seen self.old) (files_seen self.new) }
+        ensures content { HoldSame self.old self.new }
 
-        ensures due { (result ≡ Err LoadFault.Failed) ↔ (FailsNext (calls_on self.old) ⊎ (held_by self.old name.now ≡ None)) }
-        ensures failed { result ≡ Err LoadFault.Failed → calls_on self.new ≡ after_failure (calls_on self.old) }
+        ensures failed { result ≡ Err LoadFault.Failed → calls_on self.new ≡ after_fault (calls_on self.old) }
         ensures passed { result ≢ Err LoadFault.Failed → calls_on self.new ≡ after_call (calls_on self.old) }
+        ensures later { (calls_on self.old).failed ≤ (calls_on self.new).failed }
     {
         let fails = self.calls.begin();
         match self.get(name) {
@@ -95,16 +93,14 @@ impl Files for MemFiles {
     }
 
     fn save(&mut self, name: &str, bytes: &[u8]) -> Result<(), Failed>
-        ensures ok { OnOk result (Saves name.now bytes.now (files_seen self.old) (files_seen self.new)) }
-        ensures others { OthersSame name.now (files_seen self.old) (files_seen self.new) }
-        ensures loads { NoneFell (files_seen self.old).loads (files_seen self.new).loads }
-        ensures saves { NoneFell (files_seen self.old).saves (files_seen self.new).saves }
-        ensures cause { OnErr result (SavesRose name.now (files_seen self.old) (files_seen self.new)) }
+        ensures due { OnOk result (¬ FailsNext (calls_on self.old)) }
+        ensures ok { OnOk result (held_by self.new name.now ≡ Some bytes.now) }
+        ensures others { OthersHoldSame name.now self.old self.new }
+        ensures refused { OnErr result (HoldSame self.old self.new) }
 
-        ensures due { OnOk result (FailsNext (calls_on self.old) → ⊥) }
-        ensures kept { OnErr result (HoldSame self.old self.new) }
-        ensures failed { OnErr result (calls_on self.new ≡ after_failure (calls_on self.old)) }
+        ensures failed { OnErr result (calls_on self.new ≡ after_fault (calls_on self.old)) }
         ensures passed { OnOk result (calls_on self.new ≡ after_call (calls_on self.old)) }
+        ensures later { (calls_on self.old).failed ≤ (calls_on self.new).failed }
     {
         if !self.calls.begin()
             && let Ok(()) = self.set(name, bytes)

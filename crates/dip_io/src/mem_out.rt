@@ -1,5 +1,4 @@
-ghost use Rattle.std.specs.Prelude.{◌≡◌, ◌<◌, ◌≤◌, [], length, min, take, IfOk, OnOk, OnErr};
-ghost use Rattle.dip_io.specs.Outside.{Rose, Writes};
+ghost use Rattle.std.specs.Prelude.{◌≡◌, ◌<◌, ◌≤◌, ◌++◌, [], length, min, take, IfOk, OnOk, OnErr};
 
 use crate::calls::Calls;
 use crate::{Failed, Out};
@@ -52,24 +51,21 @@ impl MemOut {
 }
 
 impl Out for MemOut {
-    ghost use Rattle.dip_io.specs.Counting.{FailsNext, after_call, after_failure};
-    ghost use Rattle.dip_io.specs.InMemory.{most_of, out_seen, puts_on};
+    ghost use Rattle.dip_io.specs.Counting.{FailsNext, after_call, after_fault};
+    ghost use Rattle.dip_io.specs.InMemory.{most_of, out_seen, puts_on, written_to};
 
     ghost seen = { out_seen };
 
     fn put(&mut self, bytes: &[u8]) -> Result<usize, Failed>
-        ensures within { IfOk result (λ count. count ≤ length bytes.now) }
-        ensures some { IfOk result (λ count. 0 < length bytes.now → 0 < count) }
-        ensures ok { IfOk result (λ count. Writes (take count bytes.now) (out_seen self.old) (out_seen self.new)) }
-        ensures refused { OnErr result ((out_seen self.new).written ≡ (out_seen self.old).written) }
-        ensures later { (out_seen self.old).faults ≤ (out_seen self.new).faults }
-        ensures cause { OnErr result (Rose (out_seen self.old).faults (out_seen self.new).faults) }
-
+        ensures due { OnOk result (¬ FailsNext (puts_on self.old)) }
         ensures count { IfOk result (λ count. count ≡ min (most_of self.old) (length bytes.now)) }
+        ensures ok { IfOk result (λ k. written_to self.new ≡ written_to self.old ++ take k bytes.now) }
+        ensures refused { OnErr result (written_to self.new ≡ written_to self.old) }
         ensures most { most_of self.new ≡ most_of self.old }
-        ensures due { OnOk result (FailsNext (puts_on self.old) → ⊥) }
-        ensures failed { OnErr result (puts_on self.new ≡ after_failure (puts_on self.old)) }
+
+        ensures failed { OnErr result (puts_on self.new ≡ after_fault (puts_on self.old)) }
         ensures passed { OnOk result (puts_on self.new ≡ after_call (puts_on self.old)) }
+        ensures later { (puts_on self.old).failed ≤ (puts_on self.new).failed }
     {
         let fails = self.puts.begin();
         let count = bytes.len().min(self.most);
