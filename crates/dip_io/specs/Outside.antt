@@ -1,5 +1,5 @@
 -- What calls on files and on an output do, as far as it is told, and when they fail.
-use Rattle.std.specs.Prelude.{ℕ, ◌≡◌, ◌≢◌, ◌<◌, ◌≤◌, ◌-◌, ◌^◌, ◌⊎◌, List, ◌++◌, length, take, drop, Option, Some, MatchOption}
+use Rattle.std.specs.Prelude.{ℕ, ◌≡◌, ◌≢◌, ◌<◌, ◌≤◌, ◌-◌, ◌^◌, ◌⊎◌, List, ◌++◌, length, take, drop, Option, Some, None, MatchOption}
 use Rattle.std.specs.Option.{option_map}
 
 -- what is known of a name: nothing, or that there is no such file, or its bytes
@@ -54,6 +54,10 @@ Appends P before now = (take (length before) now ≡ before) × P (drop (length 
 abbrev pub Loads : ℕ → List ℕ → FilesSeen → List ℕ → List ℕ → Type 0
 Loads max name files before now = Appends (AreFirst max (files.content name)) before now
 
+-- a list is longer by the first `max` bytes that a source had left, or all where they are fewer, as far as they are known
+abbrev pub TakesFirst : ℕ → Option (List ℕ) → List ℕ → List ℕ → Type 0
+TakesFirst max left before now = Appends (AreFirst max (option_map (λ all. Some all) left)) before now
+
 -- the name holds these bytes, as far as it is told
 abbrev pub Saves : List ℕ → List ℕ → FilesSeen → FilesSeen → Type 0
 Saves name bytes before now = now.content name ≡ option_map (λ _. Some bytes) (before.content name)
@@ -69,3 +73,11 @@ Writes bytes before now = now.written ≡ appended bytes before.written
 -- the first of these bytes were written, or none, and not all
 abbrev pub WritesPart : List ℕ → OutSeen → OutSeen → Type 0
 WritesPart bytes before now = (k : ℕ) × (k < length bytes) × Writes (take k bytes) before now
+
+-- files of which nothing is told, with one count of faults for all names and calls
+abbrev pub untold_files : ℕ → FilesSeen
+untold_files faults = record { content = λ _. None; loads = λ _. faults; saves = λ _. faults }
+
+-- an output of which nothing is told
+abbrev pub untold_out : ℕ → OutSeen
+untold_out faults = record { written = None; faults = faults }

@@ -16,3 +16,6 @@ pub use mem_out::MemOut;
 pub use out::Out;
 pub use put::put_all;
 pub use real::{RealFiles, RealOut};
+
+#[cfg(test)]
+mod tests;
