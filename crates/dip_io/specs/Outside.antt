@@ -19,7 +19,7 @@ pub record OutSeen : Type 0 where
 
 -- a count is greater than before, or stands at the last value of a counter
 abbrev pub Rose : ℕ → ℕ → Type 0
-Rose before now = (before < now) ⊎ (2 ^ 64 - 1 ≤ now)
+Rose before now = (before < now) ⊎ (now ≡ 2 ^ 64 - 1)
 
 -- the count of loads of this name that have failed rose
 abbrev pub LoadsRose : List ℕ → FilesSeen → FilesSeen → Type 0

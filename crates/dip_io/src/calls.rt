@@ -4,12 +4,14 @@ ghost use Rattle.dip_io.specs.Counting.{FailsNext, after_call, failing_at, next_
 use dip_lists::{Items, Memory};
 use std::alloc::Global;
 
-/// The calls on something in memory, counted from 1: the numbers of those that are to fail, how many were
-/// made, and how many have failed.
+/// The calls on something in memory. The first call has number 1.
 #[derive(Debug, Drop)]
 pub struct Calls {
+    /// The numbers of the calls that are to fail.
     pub failing: Items<u64>,
+    /// How many calls were made.
     pub made: u64,
+    /// How many of them have failed.
     pub failed: u64,
 }
 

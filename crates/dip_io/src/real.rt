@@ -10,6 +10,7 @@ use std::io::{self, Read, Write};
 use std::marker::Model;
 use std::rt;
 
+// How many bytes of a file are read at once.
 const CHUNK: usize = 4096;
 
 /// The files of the system, of which nothing is told. Contracts see how many of their calls have failed.
