@@ -29,11 +29,11 @@ is_source (Some (Source ports ids emits)) = true
 is_source (Some (Sink beat ports supports)) = false
 is_source None = false
 
-abbrev pub bind_is_turned : List NodeEntry → ℕ → BindEntry → Bool
-bind_is_turned nodes number b = is_sink (kind_at nodes b.from) || is_source (kind_at nodes b.to)
+abbrev pub bind_is_turned : List NodeEntry → BindEntry → Bool
+bind_is_turned nodes b = is_sink (kind_at nodes b.from) || is_source (kind_at nodes b.to)
 
 abbrev pub turned_binds : Design → List ℕ
-turned_binds design = places (bind_is_turned design.nodes) 0 design.binds
+turned_binds design = places (λ number b. bind_is_turned design.nodes b) 0 design.binds
 
 -- ---- check 9: a source or sink has as many edges as ports
 
@@ -57,16 +57,22 @@ abbrev pub has_overlap : List Pattern → Bool
 has_overlap [] = false
 has_overlap (s ∷ sets) = list_any (overlap s) sets || has_overlap sets
 
-abbrev pub edge_overlaps : ℕ → UpPort → Bool
-edge_overlaps number up = has_overlap (sets_of up.slaves)
+abbrev pub edge_overlaps : UpPort → Bool
+edge_overlaps up = has_overlap (sets_of up.slaves)
+
+abbrev pub overlapping_edges : List UpPort → List ℕ
+overlapping_edges ups = places (λ number up. edge_overlaps up) 0 ups
 
 -- ---- check 15: a set whose alignment is below its slave's largest transfer
 
 abbrev pub slave_is_misaligned : Slave → Bool
 slave_is_misaligned slave = list_any (λ s. nat_lt (alignment s) (largest slave.supports)) slave.addresses
 
-abbrev pub edge_is_misaligned : ℕ → UpPort → Bool
-edge_is_misaligned number up = list_any slave_is_misaligned up.slaves
+abbrev pub edge_is_misaligned : UpPort → Bool
+edge_is_misaligned up = list_any slave_is_misaligned up.slaves
+
+abbrev pub misaligned_edges : List UpPort → List ℕ
+misaligned_edges ups = places (λ number up. edge_is_misaligned up) 0 ups
 
 -- ---- all checks after those of the file
 
@@ -77,6 +83,6 @@ abbrev pub design_checks : Design → List Check
 design_checks design =
     check 6 (turned_binds design)
     ∷ check 9 (unfilled_nodes design)
-    ∷ check 14 (places edge_overlaps 0 (ups_of design))
-    ∷ check 15 (places edge_is_misaligned 0 (ups_of design))
+    ∷ check 14 (overlapping_edges (ups_of design))
+    ∷ check 15 (misaligned_edges (ups_of design))
     ∷ []

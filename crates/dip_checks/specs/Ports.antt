@@ -30,10 +30,13 @@ down_from node port (Some (Source ports ids emits)) = source_port node port ids 
 down_from node port (Some (Sink beat ports supports)) = no_masters
 down_from node port None = no_masters
 
+abbrev pub addresses_at : List (List Pattern) → ℕ → List Pattern
+addresses_at ports port = unwrap_or (slice_get ports port) []
+
 -- a sink's own port: one slave with the addresses of that port
 abbrev pub sink_port : ℕ → ℕ → ℕ → List (List Pattern) → Ops → UpPort
 sink_port node port beat ports supports =
-    record { slaves = record { node = node; port = port; addresses = unwrap_or (slice_get ports port) []; supports = supports } ∷ []; beat = beat }
+    record { slaves = record { node = node; port = port; addresses = addresses_at ports port; supports = supports } ∷ []; beat = beat }
 
 -- no slave, which is what an edge to another node has; no accepted design has such an edge
 abbrev pub no_slaves : UpPort

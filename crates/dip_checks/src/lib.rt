@@ -3,5 +3,8 @@
 #![tactic(auto)]
 
 mod accepted;
+mod edges;
+mod ports;
+mod sets;
 
 pub use accepted::{Accepted, Solution};
