@@ -3,8 +3,10 @@
 #![tactic(auto)]
 
 mod accepted;
+mod check;
 mod edges;
 mod ports;
 mod sets;
 
 pub use accepted::{Accepted, Solution};
+pub use check::check_design;
