@@ -1,5 +1,6 @@
-ghost use Rattle.std.specs.Prelude.{◌≡◌, ◌≢◌, ◌≤◌, ◌^◌, ◌⊎◌, ◌↔◌, IsTrue, IfOk, OnErr, bit_and};
-ghost use Rattle.dip_sets.specs.Sets.{In, Overlap, IsLowestClear, IsSet, is_in, overlap, alignment};
+ghost use Rattle.std.specs.Prelude.{◌≡◌, ◌≢◌, ◌≤◌, ◌^◌, ◌⊎◌, ◌↔◌, IsTrue, IfOk, OnErr, IsNone, IfSome, bit_and};
+ghost use Rattle.dip_sets.specs.Sets.{In, Overlap, Disjoint, Covers, IsCommon, IsLowestClear, IsSet};
+ghost use Rattle.dip_sets.specs.Sets.{is_in, overlap, common, alignment};
 
 use dip_lists::Same;
 use std::marker::Model;
@@ -73,6 +74,29 @@ impl AddressSet {
     {
         let differing = self.base ^ other.base;
         differing & (self.mask | other.mask) == differing
+    }
+
+    /// Whether each address of the other set is in this one.
+    pub fn covers(&self, other: &AddressSet) -> bool
+        ensures { IsTrue result ↔ Covers self.now other.now }
+    {
+        let differing = self.base ^ other.base;
+        (differing | other.mask) & !self.mask == 0
+    }
+
+    /// The set of the addresses that are in both sets; `None` exactly where none is.
+    pub fn intersect(&self, other: &AddressSet) -> Option<AddressSet>
+        ensures none { IsNone result ↔ Disjoint self.now other.now }
+        ensures some { IfSome result (λ both. IsCommon self.now other.now both) }
+        ensures value { IfSome result (λ both. both ≡ common self.now other.now) }
+    {
+        if !self.overlaps(other) {
+            return None;
+        }
+        Some(AddressSet {
+            base: self.base | other.base,
+            mask: self.mask & other.mask,
+        })
     }
 
     /// The lowest power of two that isn't a bit of the mask: blocks of so many bytes lie whole in the set or whole
