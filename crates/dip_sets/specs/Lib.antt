@@ -1,3 +1,4 @@
+pub mod Differences
 pub mod Ids
 pub mod Names
 pub mod Sets

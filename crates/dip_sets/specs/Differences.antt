@@ -1,0 +1,38 @@
+-- One address set without another, as sets.
+use Rattle.std.specs.Prelude.{ℕ, zero, suc, ◌≡◌, ◌≤◌, ◌<◌, ◌*◌, ◌-◌, ◌/◌, ◌^◌, ◌==◌, List, [], ◌∷◌, map, cond, bit_and, bit_or, bit_xor}
+use Rattle.std.specs.Int.{bit_at}
+use Rattle.dip_sets.specs.Sets.{Pattern, In, overlap}
+
+-- the bits that are free in the one set and fixed in the other
+abbrev pub cut_bits : Pattern → Pattern → ℕ
+cut_bits s t = bit_and s.mask (2 ^ 64 - 1 - t.mask)
+
+-- those of them from a place up
+abbrev pub cut_from : Pattern → Pattern → ℕ → ℕ
+cut_from s t place = cut_bits s t / 2 ^ place * 2 ^ place
+
+-- the one set with these bits fixed: the lowest as the other set doesn't have it, the higher ones as it has them
+abbrev pub piece : Pattern → Pattern → ℕ → Pattern
+piece s t place = record {
+  base = bit_or s.base (bit_and (bit_xor t.base (2 ^ place)) (cut_from s t place));
+  mask = bit_and s.mask (2 ^ 64 - 1 - cut_from s t place);
+}
+
+-- the same by its numbers
+pub record IsInPiece (s t : Pattern) (place x : ℕ) : Type 0 where
+  pub in_set : In s x
+  pub differs : bit_at x place ≡ 1 - bit_at t.base place
+  pub agrees : (i : ℕ) → place < i → bit_at (cut_bits s t) i ≡ 1 → bit_at x i ≡ bit_at t.base i
+
+-- the places of a number's bits that are 1, below a place, the highest first
+unfoldable pub places_of : ℕ → ℕ → List ℕ
+places_of zero n = []
+places_of (suc place) n = cond (bit_at n place == 1) (place ∷ places_of place n) (places_of place n)
+
+-- a piece for each of the bits that are free in the one set and fixed in the other
+abbrev pub pieces : Pattern → Pattern → List Pattern
+pieces s t = map (piece s t) (places_of 48 (cut_bits s t))
+
+-- the one set itself where they don't overlap
+abbrev pub difference : Pattern → Pattern → List Pattern
+difference s t = cond (overlap s t) (pieces s t) (s ∷ [])
