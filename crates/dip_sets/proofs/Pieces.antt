@@ -1,14 +1,14 @@
 -- The pieces of one set without another.
-use Rattle.std.proofs.Common.{ℕ, zero, suc, ◌≡◌, ◌≢◌, ◌+◌, ◌-◌, ◌*◌, ◌/◌, ◌%◌, ◌^◌, ◌<◌, ◌≤◌, ◌⊎◌, ◌↔◌, inl, inr, min, max, Bool, true, false, cond, nat_eq, ◌==◌, IsTrue, List, [], ◌∷◌, ◌++◌, map, length, get_or, Any, All, AllPairs, bit_and, bit_or, bit_xor, refl, ap, sym, ◌∙◌, arith, rules, w64, add-zero, append_assoc, pow_pos, le_refl, eq-or-lt_of_le}
+use Rattle.std.proofs.Common.{ℕ, zero, suc, ◌≡◌, ◌≢◌, ◌+◌, ◌-◌, ◌*◌, ◌/◌, ◌%◌, ◌^◌, ◌<◌, ◌≤◌, ◌⊎◌, ◌↔◌, inl, inr, min, max, Bool, true, false, cond, nat_eq, ◌==◌, IsTrue, List, [], ◌∷◌, ◌++◌, map, length, get_or, Any, All, AllPairs, bit_and, bit_or, bit_xor, refl, ap, sym, ◌∙◌, arith, rules, w64, add-zero, append_assoc, pow_pos, le_refl, eq-or-lt_of_le, mod-eq_of_lt, append-nil}
 use Rattle.std.specs.Int.{bit_at}
 use Rattle.std.proofs.lemmas.Nat.{shr-shr, or_lt, xor_lt, and_le_l, and_le_r, shr_split}
-use Rattle.std.proofs.lemmas.Nat.Bits.{bit_at_and, bit_at_or, bit_at_xor, bit_at-lt, bit_at_above, bit_at-zero, bit_at-pow_same, bit_at-pow_other, bit_at_cat_low, bit_at_cat_high, same_from_bits}
+use Rattle.std.proofs.lemmas.Nat.Bits.{bit_at_and, bit_at_or, bit_at_xor, bit_at-lt, bit_at_above, bit_at-zero, bit_at-pow_same, bit_at-pow_other, bit_at_cat_low, bit_at_cat_high, same_from_bits, shr_and_one}
 use Rattle.std.proofs.lemmas.Bool.Decides.{Decides-eqb}
 use Rattle.std.proofs.lemmas.Bool.{cases_lt}
 use Rattle.std.proofs.lemmas.List.Elements.{Contains-get_or}
 use Rattle.dip_sets.specs.Sets.{Pattern, IsSet, In, Overlap, Disjoint, overlap}
 use Rattle.dip_sets.specs.Differences.{cut_bits, cut_from, piece, IsInPiece, places_of, pieces, difference}
-use Rattle.dip_sets.proofs.Bits.{and_not_bits, apart_bits}
+use Rattle.dip_sets.proofs.Bits.{and_not_bits, apart_bits, shifted_one}
 use Rattle.dip_sets.proofs.Lists.{any_head, any_tail, any_cases, any_none, pairs_cons, pairs_none}
 
 -- ---- the cut bits
@@ -124,6 +124,31 @@ module _ (s t : Pattern) (k x : ℕ) (is_s : IsSet s) (is_t : IsSet t) where
         ])
     ],
   )
+
+-- ---- a piece is a set
+
+piece_apart_bit : (sb sm y f : ℕ) → sb < 2 → sm < 2 → f < 2 → min sb sm ≡ 0 → min (max sb (min y f)) (min sm (1 - f)) ≡ 0
+piece_apart_bit sb sm y f lsb lsm lf apart = grind arith
+
+pub piece_set : (s t : Pattern) (k : ℕ) → IsSet s → IsSet t → k < 48 → IsSet (piece s t k)
+piece_set s t k is_s is_t within = record {
+  apart = same_from_bits _ _ (λ i. bit_at_and (piece s t k).base (piece s t k).mask i
+    ∙ rw (piece_mask s t k i is_s, piece_base s t k i)
+      (piece_apart_bit (bit_at s.base i) (bit_at s.mask i) ((bit_at t.base i + bit_at (2 ^ k) i) % 2) (bit_at (cut_from s t k) i) (bit_at-lt _ i) (bit_at-lt _ i) (bit_at-lt _ i) (apart_bits s.base s.mask i is_s.apart))
+    ∙ sym (bit_at-zero i));
+  base_fits = or_lt 48 s.base _ is_s.base_fits (omega (arith, and_le_r (bit_xor t.base (2 ^ k)) (cut_from s t k), high_fits s t k is_s));
+  mask_fits = omega (arith, and_le_l s.mask (2 ^ 64 - 1 - cut_from s t k), is_s.mask_fits);
+}
+
+-- as it is computed in 64 bits
+pub piece_invariant : (s t : Pattern) (k bits : ℕ) → IsSet s → IsSet t → k < 48 → bits ≡ cut_bits s t
+    → (bit_and (bit_or s.base (bit_and (bit_xor t.base (1 * 2 ^ k % 2 ^ 64)) (bits / 2 ^ k * 2 ^ k % 2 ^ 64))) (bit_and s.mask (2 ^ 64 - 1 - bits / 2 ^ k * 2 ^ k % 2 ^ 64)) ≡ 0)
+    × (bit_or s.base (bit_and (bit_xor t.base (1 * 2 ^ k % 2 ^ 64)) (bits / 2 ^ k * 2 ^ k % 2 ^ 64)) < 2 ^ 48)
+    × (bit_and s.mask (2 ^ 64 - 1 - bits / 2 ^ k * 2 ^ k % 2 ^ 64) < 2 ^ 48)
+piece_invariant s t k bits is_s is_t within e =
+    let set = piece_set s t k is_s is_t within in
+    let narrow : cut_from s t k % 2 ^ 64 ≡ cut_from s t k = mod-eq_of_lt (omega (arith, high_fits s t k is_s)) in
+    rw (e, shifted_one k (omega arith), narrow) (set.apart, set.base_fits, set.mask_fits)
 
 -- ---- the list of pieces
 
@@ -249,17 +274,23 @@ alone_together s t apart x = (
   λ h. any_head (λ p. In p x) s [] h.0,
 )
 
-pub alone_apart : (s : Pattern) → AllPairs Disjoint (s ∷ [])
-alone_apart s = pairs_cons Disjoint s [] (λ j d within. absurd (omega arith)) (pairs_none Disjoint)
-
 -- ---- how the list grows
 
-pub pieces_push : (s t : Pattern) (k n : ℕ) (before after whole : List Pattern) → bit_at n k ≡ 1
-    → before ++ map (piece s t) (places_of (suc k) n) ≡ whole → after ≡ before ++ piece s t k ∷ []
+pub pieces_push : (s t : Pattern) (p k n : ℕ) (before after whole : List Pattern) → p ≡ suc k → bit_and (n / 2 ^ k) 1 ≡ 1
+    → before ++ map (piece s t) (places_of p n) ≡ whole → after ≡ before ++ piece s t k ∷ []
     → after ++ map (piece s t) (places_of k n) ≡ whole
-pieces_push s t k n before after whole one h e =
-    rw (e, append_assoc) (ap (λ l. before ++ map (piece s t) l) (sym (places_with k n one)) ∙ h)
+pieces_push s t p k n before after whole next one h e =
+    let list : places_of p n ≡ k ∷ places_of k n = ap (λ j. places_of j n) next ∙ places_with k n (sym (shr_and_one n k) ∙ one) in
+    rw (e, append_assoc) (ap (λ l. before ++ map (piece s t) l) (sym list) ∙ h)
 
-pub pieces_stay : (s t : Pattern) (k n : ℕ) (before whole : List Pattern) → bit_at n k ≡ 0
-    → before ++ map (piece s t) (places_of (suc k) n) ≡ whole → before ++ map (piece s t) (places_of k n) ≡ whole
-pieces_stay s t k n before whole none h = ap (λ l. before ++ map (piece s t) l) (sym (places_without k n none)) ∙ h
+pub pieces_stay : (s t : Pattern) (p k n : ℕ) (before whole : List Pattern) → p ≡ suc k → bit_and (n / 2 ^ k) 1 ≢ 1
+    → before ++ map (piece s t) (places_of p n) ≡ whole → before ++ map (piece s t) (places_of k n) ≡ whole
+pieces_stay s t p k n before whole next other h =
+    let none : bit_at n k ≡ 0 = omega (arith, shr_and_one n k, bit_at-lt n k) in
+    let list : places_of p n ≡ places_of k n = ap (λ j. places_of j n) next ∙ places_without k n none in
+    ap (λ l. before ++ map (piece s t) l) (sym list) ∙ h
+
+pub pieces_all : (s t : Pattern) (p n : ℕ) (sets whole : List Pattern) → p ≡ 0 → sets ++ map (piece s t) (places_of p n) ≡ whole → sets ≡ whole
+pieces_all s t p n sets whole end h =
+    let list : places_of p n ≡ [] = ap (λ j. places_of j n) end ∙ places_none n in
+    sym (append-nil sets) ∙ ap (λ l. sets ++ map (piece s t) l) (sym list) ∙ h

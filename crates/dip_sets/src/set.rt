@@ -1,8 +1,11 @@
-ghost use Rattle.std.specs.Prelude.{◌≡◌, ◌≢◌, ◌≤◌, ◌^◌, ◌⊎◌, ◌↔◌, IsTrue, IfOk, OnErr, IsNone, IfSome, bit_and};
+ghost use Rattle.std.specs.Prelude.{ℕ, ◌≡◌, ◌≢◌, ◌<◌, ◌≤◌, ◌^◌, ◌⊎◌, ◌↔◌, IsTrue, IfOk, OnErr, IsNone, IfSome, bit_and};
+ghost use Rattle.std.specs.Prelude.{Any, AllPairs};
+ghost use Rattle.dip_sets.specs.Differences.{cut_bits, piece, pieces, difference};
 ghost use Rattle.dip_sets.specs.Sets.{In, Overlap, Disjoint, Covers, IsCommon, IsLowestClear, IsSet};
 ghost use Rattle.dip_sets.specs.Sets.{is_in, overlap, common, alignment};
 
-use dip_lists::Same;
+use dip_lists::{Items, Memory, Same};
+use std::alloc::Global;
 use std::marker::Model;
 use thiserror::Error;
 
@@ -10,6 +13,9 @@ use thiserror::Error;
 #[derive(Clone, Copy, Debug, PartialEq, Eq, Error)]
 #[error("a base and a mask share a bit or exceed 48 bits")]
 pub struct BadSet;
+
+/// Address sets, in order.
+pub type AddressSets = Items<AddressSet>;
 
 /// The addresses below 2^48 whose bits outside the mask are those of the base.
 #[derive(Clone, Copy, Debug, PartialEq, Eq)]
@@ -99,6 +105,21 @@ impl AddressSet {
         })
     }
 
+    /// Disjoint sets that together hold the addresses of this set that aren't in the other one: this set itself
+    /// where the two don't overlap, and else a set for each bit that is in this mask alone, the highest first.
+    pub fn subtract(&self, alloc: Global, other: &AddressSet) -> Result<AddressSets, Memory>
+        ensures list { IfOk result (λ sets. sets ≡ difference self.now other.now) }
+        ensures members { IfOk result (λ sets. (x : ℕ) → Any (λ s. In s x) sets ↔ (In self.now x × (In other.now x → ⊥))) }
+        ensures disjoint { IfOk result (λ sets. AllPairs Disjoint sets) }
+    {
+        if self.overlaps(other) {
+            return self.pieces(alloc, other);
+        }
+        let mut sets = Items::new(alloc);
+        sets.push(*self)?;
+        Ok(sets)
+    }
+
     /// The lowest power of two that isn't a bit of the mask: blocks of so many bytes lie whole in the set or whole
     /// outside it.
     pub fn alignment(&self) -> u64
@@ -106,6 +127,48 @@ impl AddressSet {
         ensures value { result ≡ alignment self.now }
     {
         1 << self.mask.trailing_ones()
+    }
+}
+
+impl AddressSet {
+    // The bits that are in this mask alone.
+    fn cut_bits(&self, other: &AddressSet) -> u64
+        ensures bits { result ≡ cut_bits self.now other.now }
+        ensures this { IsSet self.now }
+        ensures that { IsSet other.now }
+    {
+        self.mask & !other.mask
+    }
+
+    // The addresses whose bit at this place differs from the other set's, and whose higher such bits agree with it.
+    fn piece(&self, other: &AddressSet, place: u32) -> AddressSet
+        requires { place < 48 }
+        ensures { result ≡ piece self.now other.now place }
+    {
+        let fixed = self.cut_bits(other) >> place << place;
+        AddressSet {
+            base: self.base | ((other.base ^ (1 << place)) & fixed),
+            mask: self.mask & !fixed,
+        }
+    }
+
+    // The pieces of this set, for each bit that is in this mask alone.
+    fn pieces(&self, alloc: Global, other: &AddressSet) -> Result<AddressSets, Memory>
+        requires { Overlap self.now other.now }
+        ensures list { IfOk result (λ sets. sets ≡ pieces self.now other.now) }
+        ensures members { IfOk result (λ sets. (x : ℕ) → Any (λ s. In s x) sets ↔ (In self.now x × (In other.now x → ⊥))) }
+        ensures disjoint { IfOk result (λ sets. AllPairs Disjoint sets) }
+    {
+        let cut = self.cut_bits(other);
+        let mut sets = Items::new(alloc);
+        let mut place = 48;
+        while place > 0 {
+            place -= 1;
+            if cut >> place & 1 == 1 {
+                sets.push(self.piece(other, place))?;
+            }
+        }
+        Ok(sets)
     }
 }
 
