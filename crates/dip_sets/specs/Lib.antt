@@ -1,3 +1,4 @@
+pub mod Assignments
 pub mod Differences
 pub mod Ids
 pub mod Names

@@ -1,11 +1,13 @@
 //! Names, address sets, transfer sizes and id ranges.
 #![tactic(auto)]
 
+mod assign;
 mod ids;
 mod name;
 mod set;
 mod sizes;
 
+pub use assign::assign_ranges;
 pub use ids::{IdRange, IdRanges};
 pub use name::Name;
 pub use set::{AddressSet, BadSet};
