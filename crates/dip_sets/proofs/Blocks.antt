@@ -1,8 +1,8 @@
 -- Blocks of addresses, and regions that are split into them.
-use Rattle.std.proofs.Common.{ℕ, zero, suc, ◌≡◌, ◌+◌, ◌-◌, ◌*◌, ◌/◌, ◌%◌, ◌^◌, ◌<◌, ◌≤◌, ◌⊎◌, ◌↔◌, inl, inr, min, List, [], ◌∷◌, ◌++◌, length, get_or, Bool, true, false, cond, ◌&&◌, ◌==◌, nat_le, IsTrue, Any, All, AllPairs, refl, ap, sym, ◌∙◌, subst, arith, rules, w64, pow-suc, pow_pos, add-zero, append_assoc, append-nil, le_antisymm, eq-or-lt_of_le, eq-zero-or-pos, add-mul, one-mul}
+use Rattle.std.proofs.Common.{ℕ, zero, suc, ◌≡◌, ◌+◌, ◌-◌, ◌*◌, ◌/◌, ◌%◌, ◌^◌, ◌<◌, ◌≤◌, ◌⊎◌, ◌↔◌, inl, inr, min, List, [], ◌∷◌, ◌++◌, length, get_or, Bool, true, false, cond, ◌&&◌, ◌==◌, nat_le, IsTrue, Any, All, AllPairs, refl, ap, sym, ◌∙◌, subst, arith, rules, w64, pow-suc, pow_pos, add-zero, append_assoc, append-nil, le_antisymm, eq-or-lt_of_le, eq-zero-or-pos, add-mul, one-mul, bit_and}
 use Rattle.std.specs.Int.{bit_at, trailing_zeros, IsPowerOfTwo}
 use Rattle.std.proofs.Math.Nat.{pow-le-pow_right, div-mul-le_self, lt-div-mul-add, div-eq_of_lt-le}
-use Rattle.std.proofs.lemmas.Nat.{mod-pow-add, shr_split, shr-shr}
+use Rattle.std.proofs.lemmas.Nat.{mod-pow-add, shr_split, shr-shr, and_mask}
 use Rattle.std.proofs.lemmas.Nat.Bits.{bit_at-lt, bit_at-zero, bit_at_ones, bit_at_ones_above, bit_at_cat_low, bit_at-trailing_zeros, same_from_bits}
 use Rattle.std.proofs.lemmas.Bool.{cases_lt, leb-true, leb-false}
 use Rattle.std.proofs.lemmas.Bool.Decides.{Decides-eqb, nat_tests}
@@ -12,6 +12,8 @@ use Rattle.dip_sets.specs.Regions.{IsInRegion, IsBlock, block_set, IsSplit, bloc
 use Rattle.dip_sets.proofs.Lists.{any_head, any_tail, any_cases, any_none, pairs_cons, pairs_none}
 use Rattle.dip_sets.proofs.Pieces.{shifted_bits}
 use Rattle.dip_sets.proofs.Powers.{power_pos}
+use Rattle.dip_sets.proofs.Bits.{shifted_one}
+use Rattle.std.specs.Int.Count.{trailing_of_zero}
 
 -- ---- powers of two that divide
 
@@ -57,6 +59,29 @@ block_from start size t l clear top fits next = record {
     ] in
     rw e (powers_le j (min t l) low);
 }
+
+-- the block that trailing zeros and the logarithm of the size give
+pub block_is_shift : (start size l : ℕ) → start < 2 ^ 64 → l < 64 → 2 ^ l ≤ size → size < 2 * 2 ^ l → IsBlock start size (1 * 2 ^ min (trailing_zeros w64 start) l % 2 ^ 64)
+block_is_shift start size l fits short low high =
+    rw (shifted_one (min (trailing_zeros w64 start) l) (omega arith)) (elim (eq-zero-or-pos start) [
+      | inl none ↦
+        let all : trailing_zeros w64 start ≡ 64 = ap (trailing_zeros w64) none ∙ trailing_of_zero 64 in
+        block_from start size (trailing_zeros w64 start) l (λ i below. ap (λ n. bit_at n i) none ∙ bit_at-zero i) (inr (omega arith)) low high
+      | inr some ↦
+        let t = bit_at-trailing_zeros w64 start some fits in
+        block_from start size (trailing_zeros w64 start) l t.2 (inl t.1) low high
+    ])
+
+pub ones_apart : (n k : ℕ) → n % 2 ^ k ≡ 0 → bit_and n (2 ^ k - 1) ≡ 0
+ones_apart n k divides = and_mask n k ∙ divides
+
+-- a block is a set
+pub block_invariant : (start size block : ℕ) → IsBlock start size block → start + size ≤ 2 ^ 48
+    → (bit_and start (block - 1) ≡ 0) × (start < 2 ^ 48) × (block - 1 < 2 ^ 48)
+block_invariant start size block h fits =
+    let one = power_pos block h.power in
+    let within = h.fits in
+    (subst (λ p. start % p ≡ 0 → bit_and start (p - 1) ≡ 0) (sym h.power.1) (ones_apart start h.power.0) h.divides, omega arith, omega arith)
 
 -- ---- the numbers of a block
 
@@ -211,13 +236,7 @@ first_sets_split (suc more) start size enough most = elim (eq-zero-or-pos size) 
 pub split_is : (start size : ℕ) (sets : List Pattern) → size ≤ 2 ^ 48 → IsSplit start size sets → sets ≡ region_sets start size
 split_is start size sets most h = split_unique start size sets (region_sets start size) h (first_sets_split size start size (omega arith) most)
 
--- ---- how the split goes on
-
-pub split_push : (start size base left block : ℕ) (sets now : List Pattern) → ((rest : List Pattern) → IsSplit base left rest → IsSplit start size (sets ++ rest))
-    → IsBlock base left block → now ≡ sets ++ block_set base block ∷ []
-    → (rest : List Pattern) → IsSplit (base + block) (left - block) rest → IsSplit start size (now ++ rest)
-split_push start size base left block sets now so_far is e rest h =
-    rw (e, append_assoc) (so_far (block_set base block ∷ rest) (block, is, refl, h))
+-- ---- how the split ends
 
 pub split_end : (start size base left : ℕ) (sets : List Pattern) → left ≡ 0 → ((rest : List Pattern) → IsSplit base left rest → IsSplit start size (sets ++ rest))
     → IsSplit start size sets

@@ -4,11 +4,13 @@
 mod assign;
 mod ids;
 mod name;
+mod region;
 mod set;
 mod sizes;
 
 pub use assign::assign_ranges;
 pub use ids::{IdRange, IdRanges};
 pub use name::Name;
-pub use set::{AddressSet, BadSet};
+pub use region::split_region;
+pub use set::{AddressSet, AddressSets, BadSet};
 pub use sizes::Sizes;

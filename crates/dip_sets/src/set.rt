@@ -1,5 +1,6 @@
-ghost use Rattle.std.specs.Prelude.{ℕ, ◌≡◌, ◌≢◌, ◌<◌, ◌≤◌, ◌^◌, ◌⊎◌, ◌↔◌, IsTrue, IfOk, OnErr, IsNone, IfSome, bit_and};
+ghost use Rattle.std.specs.Prelude.{ℕ, ◌≡◌, ◌≢◌, ◌+◌, ◌<◌, ◌≤◌, ◌^◌, ◌⊎◌, ◌↔◌, IsTrue, IfOk, OnErr, IsNone, IfSome, bit_and};
 ghost use Rattle.std.specs.Prelude.{Any, AllPairs};
+ghost use Rattle.dip_sets.specs.Regions.{IsBlock, block_set};
 ghost use Rattle.dip_sets.specs.Differences.{cut_bits, piece, pieces, difference};
 ghost use Rattle.dip_sets.specs.Sets.{In, Overlap, Disjoint, Covers, IsCommon, IsLowestClear, IsSet};
 ghost use Rattle.dip_sets.specs.Sets.{is_in, overlap, common, alignment};
@@ -131,6 +132,18 @@ impl AddressSet {
 }
 
 impl AddressSet {
+    // The addresses of a block that fits in a region.
+    pub(crate) fn block(start: u64, size: u64, block: u64) -> AddressSet
+        requires block { IsBlock start size block }
+        requires fits { start + size ≤ 2 ^ 48 }
+        ensures { result ≡ block_set start block }
+    {
+        AddressSet {
+            base: start,
+            mask: block - 1,
+        }
+    }
+
     // The bits that are in this mask alone.
     fn cut_bits(&self, other: &AddressSet) -> u64
         ensures bits { result ≡ cut_bits self.now other.now }
