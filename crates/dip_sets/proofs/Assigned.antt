@@ -1,13 +1,13 @@
 -- Ranges of ids for counts: rounded up, in order, and apart.
-use Rattle.std.proofs.Common.{ℕ, zero, suc, ◌≡◌, ◌+◌, ◌-◌, ◌*◌, ◌/◌, ◌^◌, ◌<◌, ◌≤◌, ◌⊎◌, ◌↔◌, inl, inr, max, List, [], ◌∷◌, length, get_or, map, Bool, true, false, cond, ◌&&◌, ◌||◌, ◌==◌, nat_lt, nat_le, IsTrue, Result, IfOk, Ok, Err, AllPairs, refl, ap, sym, ◌∙◌, arith, rules, pow-suc, pow_pos, zero-add}
+use Rattle.std.proofs.Common.{ℕ, zero, suc, ◌≡◌, ◌+◌, ◌-◌, ◌*◌, ◌/◌, ◌^◌, ◌<◌, ◌≤◌, ◌⊎◌, inl, inr, max, List, [], ◌∷◌, length, get_or, map, Bool, true, false, cond, nat_le, Result, IfOk, Ok, Err, AllPairs, refl, ap, sym, ◌∙◌, arith, pow-suc, pow_pos, zero-add}
 use Rattle.std.specs.List.{AllZip}
-use Rattle.std.specs.Int.{IsPowerOfTwo, IsNextPowerOfTwo}
+use Rattle.std.specs.Int.{IsNextPowerOfTwo}
 use Rattle.std.proofs.Math.Nat.{pow-le-pow_right}
 use Rattle.std.proofs.lemmas.Bool.{cases_lt, leb-true, leb-false}
 use Rattle.std.proofs.lemmas.Bool.Decides.{nat_tests}
 use Rattle.dip_sets.specs.declared.ids.IdRange.{IdRange}
-use Rattle.dip_sets.specs.Ids.{HasId, DisjointIds}
-use Rattle.dip_sets.specs.Assignments.{power_from, rounded, goes_first, sum_before, range_at, ranges_from, assigned, IsRounded, HasRoom}
+use Rattle.dip_sets.specs.Ids.{DisjointIds}
+use Rattle.dip_sets.specs.Assignments.{power_from, rounded, goes_first, sum_before, range_at, ranges_from, IsRounded, HasRoom}
 
 pub if_ok_same : {T E : Type 0} (r : Result T E) (y : T) (P : T → Type 0) → IfOk r (λ x. x ≡ y) → P y → IfOk r P
 if_ok_same (Ok x) y P e p = rw e p

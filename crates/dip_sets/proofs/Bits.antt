@@ -1,11 +1,11 @@
 -- Address sets bit by bit.
-use Rattle.std.proofs.Common.{ℕ, ◌+◌, ◌-◌, ◌^◌, ◌%◌, ◌<◌, ◌≤◌, ◌≡◌, ◌⊎◌, ◌*◌, ◌↔◌, inl, inr, min, max, ap, sym, ◌∙◌, arith, rules, bit_and, bit_or, refl, w64, IsTrue, true, false, nat_eq}
+use Rattle.std.proofs.Common.{ℕ, ◌+◌, ◌-◌, ◌^◌, ◌%◌, ◌<◌, ◌≤◌, ◌≡◌, ◌⊎◌, ◌*◌, ◌↔◌, inl, inr, min, max, ap, sym, ◌∙◌, arith, rules, bit_and, bit_or, refl, w64, IsTrue, nat_eq}
 use Rattle.std.specs.Prelude.{bit_xor}
 use Rattle.std.specs.Int.{bit_at}
 use Rattle.std.proofs.lemmas.Nat.Bits.{bit_at_and, bit_at_or, bit_at_xor, bit_at_not, bit_at-lt, bit_at_above, bit_at-zero, same_from_bits}
 use Rattle.std.proofs.Math.Pow.{pow-lt}
 use Rattle.std.proofs.lemmas.Bool.Decides.{Decides-eqb}
-use Rattle.dip_sets.specs.Sets.{Pattern, IsSet, In, is_in, Overlap, overlap, Disjoint, Covers, IsCommon, common}
+use Rattle.dip_sets.specs.Sets.{Pattern, Overlap, Covers, IsCommon, common}
 use Rattle.std.proofs.lemmas.Nat.{xor_lt, or_lt}
 
 below_or_above : (i n : ℕ) → (i < n) ⊎ (n ≤ i)
@@ -44,13 +44,6 @@ contains_is b m x apart hb hm hx =
       λ h. same_from_bits _ _ (λ i. one_bit (bit_at m i) (bit_at b i) (bit_at x i) _ (bit_at-lt x i) (bit_at-lt b i) (bit_at-lt m i) (h i) (apart_bits b m i apart) (and_not_bits x m i hx hm64)),
     )
 
--- the test of a set, for numbers of 64 bits
-pub is_in_from : (s : Pattern) (x : ℕ) → IsSet s → x < 2 ^ 64 → In s x → IsTrue (is_in s x)
-is_in_from s x set fits h = (Decides-eqb _ _).1 ((contains_is s.base s.mask x set.apart set.base_fits set.mask_fits fits).1 h)
-
-pub in_from_test : (s : Pattern) (x : ℕ) → IsSet s → x < 2 ^ 64 → IsTrue (is_in s x) → In s x
-in_from_test s x set fits t = (contains_is s.base s.mask x set.apart set.base_fits set.mask_fits fits).0 ((Decides-eqb _ _).0 t)
-
 -- ---- overlaps
 
 overlap_bit : (b1 m1 b2 m2 i : ℕ) → bit_at (bit_and (bit_xor b1 b2) (bit_or m1 m2)) i ≡ min ((bit_at b1 i + bit_at b2 i) % 2) (max (bit_at m1 i) (bit_at m2 i))
@@ -65,7 +58,7 @@ agree : (b1 m1 b2 m2 x : ℕ) → b1 < 2 → m1 < 2 → b2 < 2 → m2 < 2 → (m
 agree b1 m1 b2 m2 x lb1 lm1 lb2 lm2 h1 h2 = grind arith
 
 -- where a number is in both, the bases differ in bits of the masks alone
-overlap_from : (p q : Pattern) → Overlap p q → bit_and (bit_xor p.base q.base) (bit_or p.mask q.mask) ≡ bit_xor p.base q.base
+pub overlap_from : (p q : Pattern) → Overlap p q → bit_and (bit_xor p.base q.base) (bit_or p.mask q.mask) ≡ bit_xor p.base q.base
 overlap_from p q (x, in_p, in_q) = same_from_bits _ _ (λ i. overlap_bit p.base p.mask q.base q.mask i
     ∙ agree (bit_at p.base i) (bit_at p.mask i) (bit_at q.base i) (bit_at q.mask i) (bit_at x i) (bit_at-lt _ i) (bit_at-lt _ i) (bit_at-lt _ i) (bit_at-lt _ i) (in_p i) (in_q i)
     ∙ sym (bit_at_xor p.base q.base i))
@@ -81,14 +74,6 @@ overlaps_is p q ap1 ap2 = (
       in (bit_or p.base q.base, λ i z. bit_at_or p.base q.base i ∙ (each i).0 z, λ i z. bit_at_or p.base q.base i ∙ (each i).1 z),
   overlap_from p q,
 )
-
--- a number in both is found by the test, for all bases and masks
-pub overlap_test : (p q : Pattern) (x : ℕ) → In p x → In q x → IsTrue (overlap p q)
-overlap_test p q x in_p in_q = (Decides-eqb _ _).1 (overlap_from p q (x, in_p, in_q))
-
--- where the test finds none, no number is in both
-pub disjoint_from_test : (p q : Pattern) → overlap p q ≡ false → Disjoint p q
-disjoint_from_test p q apart x in_p in_q = let t : overlap p q ≡ true = overlap_test p q x in_p in_q in (cc)
 
 -- ---- covers: bases b1 b2, masks m1 m2 of the coverer and of the covered
 

@@ -1,11 +1,11 @@
 -- Blocks of addresses, and regions that are split into them.
-use Rattle.std.proofs.Common.{ℕ, zero, suc, ◌≡◌, ◌+◌, ◌-◌, ◌*◌, ◌/◌, ◌%◌, ◌^◌, ◌<◌, ◌≤◌, ◌⊎◌, ◌↔◌, inl, inr, min, List, [], ◌∷◌, ◌++◌, length, get_or, Bool, true, false, cond, ◌&&◌, ◌==◌, nat_le, IsTrue, Any, All, AllPairs, refl, ap, sym, ◌∙◌, subst, arith, rules, w64, pow-suc, pow_pos, add-zero, append_assoc, append-nil, le_antisymm, eq-or-lt_of_le, eq-zero-or-pos, add-mul, one-mul, bit_and}
+use Rattle.std.proofs.Common.{ℕ, zero, suc, ◌≡◌, ◌+◌, ◌-◌, ◌*◌, ◌/◌, ◌%◌, ◌^◌, ◌<◌, ◌≤◌, ◌⊎◌, ◌↔◌, inl, inr, min, List, [], ◌∷◌, ◌++◌, get_or, Bool, true, false, cond, ◌&&◌, ◌==◌, nat_le, Any, AllPairs, refl, ap, sym, ◌∙◌, subst, arith, w64, pow-suc, pow_pos, append-nil, le_antisymm, eq-or-lt_of_le, eq-zero-or-pos, add-mul, one-mul, bit_and}
 use Rattle.std.specs.Int.{bit_at, trailing_zeros, IsPowerOfTwo}
 use Rattle.std.proofs.Math.Nat.{pow-le-pow_right, div-mul-le_self, lt-div-mul-add, div-eq_of_lt-le}
-use Rattle.std.proofs.lemmas.Nat.{mod-pow-add, shr_split, shr-shr, and_mask}
-use Rattle.std.proofs.lemmas.Nat.Bits.{bit_at-lt, bit_at-zero, bit_at_ones, bit_at_ones_above, bit_at_cat_low, bit_at-trailing_zeros, same_from_bits}
-use Rattle.std.proofs.lemmas.Bool.{cases_lt, leb-true, leb-false}
-use Rattle.std.proofs.lemmas.Bool.Decides.{Decides-eqb, nat_tests}
+use Rattle.std.proofs.lemmas.Nat.{mod-pow-add, shr_split, and_mask}
+use Rattle.std.proofs.lemmas.Nat.Bits.{bit_at-zero, bit_at_ones, bit_at_ones_above, bit_at_cat_low, bit_at-trailing_zeros, same_from_bits}
+use Rattle.std.proofs.lemmas.Bool.{cases_lt}
+use Rattle.std.proofs.lemmas.Bool.Decides.{nat_tests}
 use Rattle.std.proofs.lemmas.List.Elements.{Contains-get_or}
 use Rattle.dip_sets.specs.Sets.{Pattern, In, Disjoint}
 use Rattle.dip_sets.specs.Regions.{IsInRegion, IsBlock, block_set, IsSplit, block_below, first_sets, region_sets}
@@ -30,9 +30,9 @@ low_bits_clear n (suc t) clear =
 divides_below : (n j t : ℕ) → n % 2 ^ j ≡ 0 → bit_at n t ≡ 1 → j ≤ t
 divides_below n j t divides one = elim (cases_lt t j) [
   | inl lt ↦
-    let whole : n / 2 ^ j * 2 ^ j + 0 ≡ n = omega (arith, shr_split n j) in
-    let none : bit_at n t ≡ 0 = ap (λ m. bit_at m t) (sym whole) ∙ bit_at_cat_low (n / 2 ^ j) j 0 t lt ∙ bit_at-zero t in
-    absurd (omega arith)
+      let whole : n / 2 ^ j * 2 ^ j + 0 ≡ n = omega (arith, shr_split n j) in
+      let none : bit_at n t ≡ 0 = ap (λ m. bit_at m t) (sym whole) ∙ bit_at_cat_low (n / 2 ^ j) j 0 t lt ∙ bit_at-zero t in
+      absurd (omega arith)
   | inr ge ↦ ge
 ]
 
@@ -52,12 +52,12 @@ block_from start size t l clear top fits next = record {
   divides = low_bits_clear start (min t l) (λ i below. clear i (omega arith));
   fits = omega (arith, powers_le (min t l) l (omega arith));
   greatest = λ other (j, e) divides other_fits.
-    let small : j ≤ l = exponent_le j l size (rw (← e) other_fits) next in
-    let low : j ≤ min t l = elim top [
-      | inl one ↦ let below : j ≤ t = divides_below start j t (rw (← e) divides) one in omega arith
-      | inr above ↦ omega arith
-    ] in
-    rw e (powers_le j (min t l) low);
+      let small : j ≤ l = exponent_le j l size (rw (← e) other_fits) next in
+      let low : j ≤ min t l = elim top [
+        | inl one ↦ let below : j ≤ t = divides_below start j t (rw (← e) divides) one in omega arith
+        | inr above ↦ omega arith
+      ] in
+      rw e (powers_le j (min t l) low);
 }
 
 -- the block that trailing zeros and the logarithm of the size give
@@ -65,11 +65,11 @@ pub block_is_shift : (start size l : ℕ) → start < 2 ^ 64 → l < 64 → 2 ^ 
 block_is_shift start size l fits short low high =
     rw (shifted_one (min (trailing_zeros w64 start) l) (omega arith)) (elim (eq-zero-or-pos start) [
       | inl none ↦
-        let all : trailing_zeros w64 start ≡ 64 = ap (trailing_zeros w64) none ∙ trailing_of_zero 64 in
-        block_from start size (trailing_zeros w64 start) l (λ i below. ap (λ n. bit_at n i) none ∙ bit_at-zero i) (inr (omega arith)) low high
+          let all : trailing_zeros w64 start ≡ 64 = ap (trailing_zeros w64) none ∙ trailing_of_zero 64 in
+          block_from start size (trailing_zeros w64 start) l (λ i below. ap (λ n. bit_at n i) none ∙ bit_at-zero i) (inr (omega arith)) low high
       | inr some ↦
-        let t = bit_at-trailing_zeros w64 start some fits in
-        block_from start size (trailing_zeros w64 start) l t.2 (inl t.1) low high
+          let t = bit_at-trailing_zeros w64 start some fits in
+          block_from start size (trailing_zeros w64 start) l t.2 (inl t.1) low high
     ])
 
 pub ones_apart : (n k : ℕ) → n % 2 ^ k ≡ 0 → bit_and n (2 ^ k - 1) ≡ 0
@@ -97,17 +97,17 @@ block_bits start k x = (
   λ e i clear. elim (cases_lt i k) [
     | inl lt ↦ absurd (omega (arith, bit_at_ones k i lt))
     | inr ge ↦
-      let there : k + (i - k) ≡ i = omega arith in
-      ap (λ j. bit_at x j) (sym there) ∙ sym (shifted_bits x k (i - k)) ∙ ap (λ n. bit_at n (i - k)) e ∙ shifted_bits start k (i - k) ∙ ap (λ j. bit_at start j) there
+        let there : k + (i - k) ≡ i = omega arith in
+        ap (λ j. bit_at x j) (sym there) ∙ sym (shifted_bits x k (i - k)) ∙ ap (λ n. bit_at n (i - k)) e ∙ shifted_bits start k (i - k) ∙ ap (λ j. bit_at start j) there
   ],
 )
 
 block_members : (start size block x : ℕ) → IsBlock start size block → In (block_set start block) x ↔ ((start ≤ x) × (x < start + block))
 block_members start size block x h = subst (λ p. start % p ≡ 0 → In (block_set start p) x ↔ ((start ≤ x) × (x < start + p))) (sym h.power.1) (λ divides.
-  let whole : start / 2 ^ h.power.0 * 2 ^ h.power.0 ≡ start = omega (arith, shr_split start h.power.0) in
-  let range = same_quotient x (start / 2 ^ h.power.0) (2 ^ h.power.0) (pow_pos h.power.0) in
-  let bits = block_bits start h.power.0 x in
-  (λ m. rw whole at (range.0 (bits.0 m)), λ r. bits.1 (range.1 (rw whole r)))) h.divides
+    let whole : start / 2 ^ h.power.0 * 2 ^ h.power.0 ≡ start = omega (arith, shr_split start h.power.0) in
+    let range = same_quotient x (start / 2 ^ h.power.0) (2 ^ h.power.0) (pow_pos h.power.0) in
+    let bits = block_bits start h.power.0 x in
+    (λ m. rw whole at (range.0 (bits.0 m)), λ r. bits.1 (range.1 (rw whole r)))) h.divides
 
 -- ---- the laws of a split
 
@@ -144,11 +144,11 @@ pub split_apart : (start size : ℕ) (sets : List Pattern) → IsSplit start siz
 split_apart start size [] h = pairs_none Disjoint
 split_apart start size (s ∷ sets) (block, is, e, rest) =
     pairs_cons Disjoint s sets (λ j d within x first second.
-        let here : In s x ↔ ((start ≤ x) × (x < start + block)) = rw e (block_members start size block x is) in
-        let found = Contains-get_or sets j d within in
-        let later = (split_members (start + block) (size - block) sets rest x).0 (found.0, get_or sets j d, found.1, found.2, second) in
-        let before = here.0 first in
-        omega arith)
+    let here : In s x ↔ ((start ≤ x) × (x < start + block)) = rw e (block_members start size block x is) in
+    let found = Contains-get_or sets j d within in
+    let later = (split_members (start + block) (size - block) sets rest x).0 (found.0, get_or sets j d, found.1, found.2, second) in
+    let before = here.0 first in
+    omega arith)
     (split_apart (start + block) (size - block) sets rest)
 
 -- ---- the split by the greatest block in turn
@@ -204,8 +204,8 @@ block_is start size some most =
       divides = h.divides;
       fits = h.fits;
       greatest = λ other (j, e) divides fits.
-        let small : j ≤ 48 = exponent_le j 48 size (rw (← e) fits) (omega arith) in
-        rw e (h.greatest j small (rw (← e) divides) (rw (← e) fits));
+          let small : j ≤ 48 = exponent_le j 48 size (rw (← e) fits) (omega arith) in
+          rw e (h.greatest j small (rw (← e) divides) (rw (← e) fits));
     }
 
 first_sets_none : (start : ℕ) (more : ℕ) → first_sets more start 0 ≡ []
@@ -226,11 +226,11 @@ first_sets_split zero start size enough most = let none : size ≡ 0 = omega ari
 first_sets_split (suc more) start size enough most = elim (eq-zero-or-pos size) [
   | inl none ↦ rw (none, first_sets_none start (suc more)) refl
   | inr some ↦
-    let block = block_below 48 start size in
-    let is : IsBlock start size block = block_is start size some most in
-    let one : 1 ≤ block = power_pos block is.power in
-    let fits = is.fits in
-    rw (first_sets_some start size more some) (block, is, refl, first_sets_split more (start + block) (size - block) (omega arith) (omega arith))
+      let block = block_below 48 start size in
+      let is : IsBlock start size block = block_is start size some most in
+      let one : 1 ≤ block = power_pos block is.power in
+      let fits = is.fits in
+      rw (first_sets_some start size more some) (block, is, refl, first_sets_split more (start + block) (size - block) (omega arith) (omega arith))
 ]
 
 pub split_is : (start size : ℕ) (sets : List Pattern) → size ≤ 2 ^ 48 → IsSplit start size sets → sets ≡ region_sets start size

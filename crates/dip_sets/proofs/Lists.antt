@@ -1,5 +1,5 @@
 -- Some item and each two items of a list, by its head.
-use Rattle.std.proofs.Common.{ℕ, zero, suc, ◌≡◌, ◌<◌, ◌⊎◌, inl, inr, List, [], ◌∷◌, length, get_or, Any, All, AllPairs, refl, sym, subst, arith}
+use Rattle.std.proofs.Common.{zero, suc, ◌⊎◌, inl, inr, List, [], ◌∷◌, Any, All, AllPairs, refl, sym, subst, arith}
 
 module _ {X : Type 0} where
   pub any_head : (P : X → Type 0) (x : X) (xs : List X) → P x → Any P (x ∷ xs)

@@ -1,13 +1,13 @@
 -- The pieces of one set without another.
-use Rattle.std.proofs.Common.{ℕ, zero, suc, ◌≡◌, ◌≢◌, ◌+◌, ◌-◌, ◌*◌, ◌/◌, ◌%◌, ◌^◌, ◌<◌, ◌≤◌, ◌⊎◌, ◌↔◌, inl, inr, min, max, Bool, true, false, cond, nat_eq, ◌==◌, IsTrue, List, [], ◌∷◌, ◌++◌, map, length, get_or, Any, All, AllPairs, bit_and, bit_or, bit_xor, refl, ap, sym, ◌∙◌, arith, rules, w64, add-zero, append_assoc, pow_pos, le_refl, eq-or-lt_of_le, mod-eq_of_lt, append-nil}
+use Rattle.std.proofs.Common.{ℕ, zero, suc, ◌≡◌, ◌≢◌, ◌+◌, ◌-◌, ◌*◌, ◌/◌, ◌%◌, ◌^◌, ◌<◌, ◌≤◌, ◌⊎◌, ◌↔◌, inl, inr, min, max, List, [], ◌∷◌, ◌++◌, map, length, get_or, Any, AllPairs, bit_and, bit_or, bit_xor, refl, ap, sym, ◌∙◌, arith, add-zero, append_assoc, pow_pos, le_refl, eq-or-lt_of_le, mod-eq_of_lt, append-nil}
 use Rattle.std.specs.Int.{bit_at}
-use Rattle.std.proofs.lemmas.Nat.{shr-shr, or_lt, xor_lt, and_le_l, and_le_r, shr_split}
+use Rattle.std.proofs.lemmas.Nat.{shr-shr, or_lt, and_le_l, and_le_r, shr_split}
 use Rattle.std.proofs.lemmas.Nat.Bits.{bit_at_and, bit_at_or, bit_at_xor, bit_at-lt, bit_at_above, bit_at-zero, bit_at-pow_same, bit_at-pow_other, bit_at_cat_low, bit_at_cat_high, same_from_bits, shr_and_one}
-use Rattle.std.proofs.lemmas.Bool.Decides.{Decides-eqb}
 use Rattle.std.proofs.lemmas.Bool.{cases_lt}
 use Rattle.std.proofs.lemmas.List.Elements.{Contains-get_or}
-use Rattle.dip_sets.specs.Sets.{Pattern, IsSet, In, Overlap, Disjoint, overlap}
-use Rattle.dip_sets.specs.Differences.{cut_bits, cut_from, piece, IsInPiece, places_of, pieces, difference}
+use Rattle.std.specs.List.{AllZip}
+use Rattle.dip_sets.specs.Sets.{Pattern, IsSet, In, Overlap, Disjoint}
+use Rattle.dip_sets.specs.Differences.{cut_bits, cut_from, piece, IsInPiece, places_of, pieces, ArePieces, IsPiece, IsInDifference}
 use Rattle.dip_sets.proofs.Bits.{and_not_bits, apart_bits, shifted_one}
 use Rattle.dip_sets.proofs.Lists.{any_head, any_tail, any_cases, any_none, pairs_cons, pairs_none}
 
@@ -117,11 +117,11 @@ module _ (s t : Pattern) (k x : ℕ) (is_s : IsSet s) (is_t : IsSet t) where
     λ h i. elim (zero_or_one (bit_at (cut_from s t k) i) (bit_at-lt _ i)) [
       | inl none ↦ (kept_at i none).1 (h.in_set i)
       | inr one ↦
-        let from = from_one i one in
-        (fixed_at i one from.1).1 (elim (eq-or-lt_of_le from.0) [
-          | inl same ↦ rw (← same) (h.differs ∙ sym (flipped (bit_at t.base k) (bit_at (2 ^ k) k) (bit_at-lt _ k) (bit_at-pow_same k)))
-          | inr above ↦ h.agrees i above from.1 ∙ sym (plain (bit_at t.base i) (bit_at (2 ^ k) i) (bit_at-lt _ i) (bit_at-pow_other k i (omega arith)))
-        ])
+          let from = from_one i one in
+          (fixed_at i one from.1).1 (elim (eq-or-lt_of_le from.0) [
+            | inl same ↦ rw (← same) (h.differs ∙ sym (flipped (bit_at t.base k) (bit_at (2 ^ k) k) (bit_at-lt _ k) (bit_at-pow_same k)))
+            | inr above ↦ h.agrees i above from.1 ∙ sym (plain (bit_at t.base i) (bit_at (2 ^ k) i) (bit_at-lt _ i) (bit_at-pow_other k i (omega arith)))
+          ])
     ],
   )
 
@@ -133,9 +133,9 @@ piece_apart_bit sb sm y f lsb lsm lf apart = grind arith
 pub piece_set : (s t : Pattern) (k : ℕ) → IsSet s → IsSet t → k < 48 → IsSet (piece s t k)
 piece_set s t k is_s is_t within = record {
   apart = same_from_bits _ _ (λ i. bit_at_and (piece s t k).base (piece s t k).mask i
-    ∙ rw (piece_mask s t k i is_s, piece_base s t k i)
+      ∙ rw (piece_mask s t k i is_s, piece_base s t k i)
       (piece_apart_bit (bit_at s.base i) (bit_at s.mask i) ((bit_at t.base i + bit_at (2 ^ k) i) % 2) (bit_at (cut_from s t k) i) (bit_at-lt _ i) (bit_at-lt _ i) (bit_at-lt _ i) (apart_bits s.base s.mask i is_s.apart))
-    ∙ sym (bit_at-zero i));
+      ∙ sym (bit_at-zero i));
   base_fits = or_lt 48 s.base _ is_s.base_fits (omega (arith, and_le_r (bit_xor t.base (2 ^ k)) (cut_from s t k), high_fits s t k is_s));
   mask_fits = omega (arith, and_le_l s.mask (2 ^ 64 - 1 - cut_from s t k), is_s.mask_fits);
 }
@@ -249,7 +249,7 @@ module _ (s t : Pattern) (is_s : IsSet s) (is_t : IsSet t) where
   unfolding Agrees
   agrees_above x i above one = absurd (omega (arith, bit_at_above (cut_bits s t) 48 i (cut_fits s t is_s) above))
 
-  together : (x : ℕ) → Overlap s t → Any (λ p. In p x) (below 48) ↔ (In s x × (In t x → ⊥))
+  together : (x : ℕ) → Overlap s t → Any (λ p. In p x) (below 48) ↔ IsInDifference s t x
   together x meet = (
     λ h.
         let r = piece_of x 48 h in
@@ -262,13 +262,25 @@ module _ (s t : Pattern) (is_s : IsSet s) (is_t : IsSet t) where
   unfolding below
   pieces_apart = apart 48
 
-  pub pieces_together : Overlap s t → (x : ℕ) → Any (λ p. In p x) (pieces s t) ↔ (In s x × (In t x → ⊥))
+  each_piece : (k : ℕ) → AllZip (IsPiece s t) (places_of k (cut_bits s t)) (below k)
+  unfolding below
+  each_piece zero = rw (places_none (cut_bits s t)) tt
+  each_piece (suc k) = elim (zero_or_one (bit_at (cut_bits s t) k) (bit_at-lt _ k)) [
+    | inl none ↦ rw (places_without k (cut_bits s t) none) (each_piece k)
+    | inr one ↦ rw (places_with k (cut_bits s t) one) (λ x. piece_is s t k x is_s is_t one, each_piece k)
+  ]
+
+  pub pieces_each : ArePieces s t (pieces s t)
+  unfolding below
+  pieces_each = each_piece 48
+
+  pub pieces_together : Overlap s t → (x : ℕ) → Any (λ p. In p x) (pieces s t) ↔ IsInDifference s t x
   unfolding below
   pieces_together meet x = together x meet
 
 -- ---- the set itself, where the two don't overlap
 
-pub alone_together : (s t : Pattern) → Disjoint s t → (x : ℕ) → Any (λ p. In p x) (s ∷ []) ↔ (In s x × (In t x → ⊥))
+pub alone_together : (s t : Pattern) → Disjoint s t → (x : ℕ) → Any (λ p. In p x) (s ∷ []) ↔ IsInDifference s t x
 alone_together s t apart x = (
   λ h. elim (any_cases (λ p. In p x) s [] h) [ inl here ↦ (here, apart x here) | inr none ↦ absurd (any_none (λ p. In p x) none) ],
   λ h. any_head (λ p. In p x) s [] h.0,

@@ -1,5 +1,5 @@
 -- Powers of two.
-use Rattle.std.proofs.Common.{ℕ, ◌≡◌, ◌+◌, ◌*◌, ◌/◌, ◌%◌, ◌^◌, ◌<◌, ◌≤◌, ◌⊎◌, ◌↔◌, inl, inr, zero, suc, IsTrue, count_ones, ap, ◌∙◌, arith, pow-suc, pow_pos}
+use Rattle.std.proofs.Common.{ℕ, ◌≡◌, ◌+◌, ◌/◌, ◌%◌, ◌^◌, ◌≤◌, ◌⊎◌, ◌↔◌, inl, inr, zero, suc, IsTrue, count_ones, ap, ◌∙◌, arith, pow-suc, pow_pos}
 use Rattle.std.specs.Int.Count.{ones_step}
 use Rattle.std.specs.Int.{is_power_of_two, IsPowerOfTwo}
 use Rattle.std.proofs.lemmas.Nat.{zero_from_ones, ones_le_self}

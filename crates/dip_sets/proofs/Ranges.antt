@@ -1,9 +1,9 @@
 -- Ranges of transfer sizes.
-use Rattle.std.proofs.Common.{ℕ, ◌≡◌, ◌≢◌, ◌<◌, ◌≤◌, ◌⊎◌, ◌↔◌, inl, inr, min, max, Bool, true, false, ◌&&◌, ◌||◌, ◌==◌, nat_le, IsTrue, refl, ap, sym, ◌∙◌, arith, rules, le_refl, subst}
+use Rattle.std.proofs.Common.{ℕ, ◌≡◌, ◌≢◌, ◌≤◌, ◌⊎◌, ◌↔◌, inl, inr, min, max, Bool, true, false, ◌&&◌, ◌||◌, ◌==◌, nat_le, IsTrue, refl, arith, le_refl}
 use Rattle.std.specs.Int.{IsPowerOfTwo}
 use Rattle.std.proofs.lemmas.Bool.Decides.{Decides-eqb}
 use Rattle.std.proofs.lemmas.Bool.{leb-true, le-leb, cases_lt}
-use Rattle.dip_sets.specs.SizeRanges.{SizeRange, is_size_pair, is_size_range, IsSizePair, HasSize, has_size, IsWithin, is_within, IsCover, cover}
+use Rattle.dip_sets.specs.SizeRanges.{SizeRange, is_size_pair, is_size_range, IsSizePair, HasSize, has_size, IsWithin, is_within, IsCover}
 use Rattle.dip_sets.proofs.Powers.{is_power_of_two_is, power_pos}
 
 both : (a b : Bool) {A B : Type 0} → IsTrue a ↔ A → IsTrue b ↔ B → IsTrue (a && b) ↔ (A × B)
@@ -137,7 +137,7 @@ cover_both s t rs rt some_s some_t = record {
   first = bounds_within s _ (omega arith) (omega arith);
   second = bounds_within t _ (omega arith) (omega arith);
   least = λ other range h k.
-    let a = within_bounds s other (a_pair s rs some_s) h in
-    let b = within_bounds t other (a_pair t rt some_t) k in
-    bounds_within _ other (omega arith) (omega arith);
+      let a = within_bounds s other (a_pair s rs some_s) h in
+      let b = within_bounds t other (a_pair t rt some_t) k in
+      bounds_within _ other (omega arith) (omega arith);
 }

@@ -1,11 +1,15 @@
 -- Transfer sizes, in bytes.
-use Rattle.std.specs.Prelude.{ℕ, Bool, true, ◌≤◌, ◌&&◌, ◌==◌, ◌||◌, ◌↔◌, nat_le, cond, min, max, IsTrue}
+use Rattle.std.specs.Prelude.{ℕ, Bool, ◌≤◌, ◌&&◌, ◌==◌, ◌||◌, ◌↔◌, nat_le, cond, min, max, IsTrue}
 use Rattle.std.specs.Int.{is_power_of_two, IsPowerOfTwo}
 
 -- the powers of two from a least to a greatest one, or none where both are 0
 pub record SizeRange : Type 0 where
   pub min : ℕ
   pub max : ℕ
+
+-- the range from a least to a greatest size
+abbrev pub size_range : ℕ → ℕ → SizeRange
+size_range least greatest = record { min = least; max = greatest }
 
 -- two powers of two in order, at most 256
 abbrev pub is_size_pair : ℕ → ℕ → Bool

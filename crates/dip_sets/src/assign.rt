@@ -1,7 +1,8 @@
 ghost use Rattle.std.specs.Prelude.{◌≡◌, ◌≤◌, ◌*◌, length, map, IfOk, All, AllPairs};
 ghost use Rattle.std.specs.List.{AllZip};
 ghost use Rattle.dip_sets.specs.Ids.{DisjointIds};
-ghost use Rattle.dip_sets.specs.Assignments.{rounded, goes_first, sum_before, ranges_from, assigned, IsRounded, HasRoom};
+ghost use Rattle.dip_sets.specs.Assignments.{rounded, goes_first, sum_before, ranges_from, assigned};
+ghost use Rattle.dip_sets.specs.Assignments.{IsRounded, HasRoom};
 
 use crate::ids::{IdRange, IdRanges};
 use dip_lists::{Items, Memory};
@@ -64,8 +65,8 @@ fn ranges_of(alloc: Global, rounded: &[u32]) -> Result<IdRanges, Memory>
     Ok(ranges)
 }
 
-/// A range for each count, in the order of the counts. Each count is rounded up to a power of two, and the ranges
-/// are placed from 0 upward by decreasing size, the earlier of equal ones first.
+/// A range for each count, in the order of the counts. Each count is rounded up to a power of two, and the
+/// ranges are placed from 0 upward by decreasing size, the earlier of equal ones first.
 pub fn assign_ranges(alloc: Global, counts: &[u32]) -> Result<IdRanges, Memory>
     requires few { length counts.now ≤ 1024 }
     requires small { All (λ count. count ≤ 1024) counts.now }

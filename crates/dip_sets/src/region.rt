@@ -1,5 +1,5 @@
-ghost use Rattle.std.specs.Prelude.{ℕ, ◌≡◌, ◌↔◌, ◌+◌, ◌<◌, ◌≤◌, ◌^◌, IfOk, Any, AllPairs};
-ghost use Rattle.dip_sets.specs.Sets.{In, Disjoint};
+ghost use Rattle.std.specs.Prelude.{ℕ, ◌≡◌, ◌↔◌, ◌+◌, ◌<◌, ◌≤◌, ◌^◌, IfOk, AllPairs};
+ghost use Rattle.dip_sets.specs.Sets.{InSome, Disjoint};
 ghost use Rattle.dip_sets.specs.Regions.{IsInRegion, IsBlock, IsSplit, region_sets};
 
 use crate::set::{AddressSet, AddressSets};
@@ -14,13 +14,13 @@ fn largest_block(start: u64, size: u64) -> u64
     1 << start.trailing_zeros().min(size.ilog2())
 }
 
-/// Disjoint sets that together hold the `size` addresses from `start` on, in rising order: each is the greatest
-/// power of two that divides its start and fits in what is left. Size 0 gives none.
+/// Disjoint sets that together hold the `size` addresses from `start` on, in rising order: each has the
+/// greatest power of two of addresses that divides its start and fits in what is left. Size 0 gives none.
 pub fn split_region(alloc: Global, start: u64, size: u64) -> Result<AddressSets, Memory>
     requires { start + size ≤ 2 ^ 48 }
     ensures split { IfOk result (λ sets. IsSplit start size sets) }
     ensures list { IfOk result (λ sets. sets ≡ region_sets start size) }
-    ensures members { IfOk result (λ sets. (x : ℕ) → Any (λ s. In s x) sets ↔ IsInRegion start size x) }
+    ensures members { IfOk result (λ sets. (x : ℕ) → InSome sets x ↔ IsInRegion start size x) }
     ensures disjoint { IfOk result (λ sets. AllPairs Disjoint sets) }
 {
     let mut sets = Items::new(alloc);

@@ -1,8 +1,8 @@
-ghost use Rattle.std.specs.Prelude.{ℕ, ◌≡◌, ◌≢◌, ◌+◌, ◌<◌, ◌≤◌, ◌^◌, ◌⊎◌, ◌↔◌, IsTrue, IfOk, OnErr, IsNone, IfSome, bit_and};
-ghost use Rattle.std.specs.Prelude.{Any, AllPairs};
+ghost use Rattle.std.specs.Prelude.{ℕ, ◌≡◌, ◌≢◌, ◌+◌, ◌<◌, ◌≤◌, ◌^◌, ◌⊎◌, ◌↔◌, bit_and};
+ghost use Rattle.std.specs.Prelude.{IsTrue, IfOk, OnErr, IsNone, IfSome, AllPairs};
 ghost use Rattle.dip_sets.specs.Regions.{IsBlock, block_set};
-ghost use Rattle.dip_sets.specs.Differences.{cut_bits, piece, pieces, difference};
-ghost use Rattle.dip_sets.specs.Sets.{In, Overlap, Disjoint, Covers, IsCommon, IsLowestClear, IsSet};
+ghost use Rattle.dip_sets.specs.Differences.{cut_bits, piece, pieces, ArePieces, difference, IsInDifference};
+ghost use Rattle.dip_sets.specs.Sets.{In, InSome, Overlap, Disjoint, Covers, IsCommon, IsLowestClear, IsSet};
 ghost use Rattle.dip_sets.specs.Sets.{is_in, overlap, common, alignment};
 
 use dip_lists::{Items, Memory, Same};
@@ -106,11 +106,13 @@ impl AddressSet {
         })
     }
 
-    /// Disjoint sets that together hold the addresses of this set that aren't in the other one: this set itself
-    /// where the two don't overlap, and else a set for each bit that is in this mask alone, the highest first.
+    /// Disjoint sets that together hold the addresses of this set that aren't in the other one: this set
+    /// itself where the two don't overlap, and else a set for each bit that is in this mask alone, the highest
+    /// first.
     pub fn subtract(&self, alloc: Global, other: &AddressSet) -> Result<AddressSets, Memory>
         ensures list { IfOk result (λ sets. sets ≡ difference self.now other.now) }
-        ensures members { IfOk result (λ sets. (x : ℕ) → Any (λ s. In s x) sets ↔ (In self.now x × (In other.now x → ⊥))) }
+        ensures pieces { Overlap self.now other.now → IfOk result (λ sets. ArePieces self.now other.now sets) }
+        ensures members { IfOk result (λ sets. (x : ℕ) → InSome sets x ↔ IsInDifference self.now other.now x) }
         ensures disjoint { IfOk result (λ sets. AllPairs Disjoint sets) }
     {
         if self.overlaps(other) {
@@ -121,8 +123,8 @@ impl AddressSet {
         Ok(sets)
     }
 
-    /// The lowest power of two that isn't a bit of the mask: blocks of so many bytes lie whole in the set or whole
-    /// outside it.
+    /// The lowest power of two that isn't a bit of the mask: blocks of so many bytes lie whole in the set or
+    /// whole outside it.
     pub fn alignment(&self) -> u64
         ensures lowest { IsLowestClear self.now.mask result }
         ensures value { result ≡ alignment self.now }
@@ -153,7 +155,7 @@ impl AddressSet {
         self.mask & !other.mask
     }
 
-    // The addresses whose bit at this place differs from the other set's, and whose higher such bits agree with it.
+    // The addresses whose bit at this place differs from the other set's and whose higher cut bits agree with it.
     fn piece(&self, other: &AddressSet, place: u32) -> AddressSet
         requires { place < 48 }
         ensures { result ≡ piece self.now other.now place }
@@ -169,7 +171,8 @@ impl AddressSet {
     fn pieces(&self, alloc: Global, other: &AddressSet) -> Result<AddressSets, Memory>
         requires { Overlap self.now other.now }
         ensures list { IfOk result (λ sets. sets ≡ pieces self.now other.now) }
-        ensures members { IfOk result (λ sets. (x : ℕ) → Any (λ s. In s x) sets ↔ (In self.now x × (In other.now x → ⊥))) }
+        ensures pieces { IfOk result (λ sets. ArePieces self.now other.now sets) }
+        ensures members { IfOk result (λ sets. (x : ℕ) → InSome sets x ↔ IsInDifference self.now other.now x) }
         ensures disjoint { IfOk result (λ sets. AllPairs Disjoint sets) }
     {
         let cut = self.cut_bits(other);

@@ -1,12 +1,12 @@
 ghost use Rattle.std.specs.Prelude.{◌≡◌, ◌↔◌, Some, None, if◌then◌else◌, IsTrue, IsSome};
-ghost use Rattle.dip_sets.specs.SizeRanges.{is_size_pair, is_size_range, IsSizePair, HasSize, has_size, IsWithin};
-ghost use Rattle.dip_sets.specs.SizeRanges.{is_within, IsMeet, IsCover, meet, cover};
+ghost use Rattle.dip_sets.specs.SizeRanges.{size_range, is_size_pair, is_size_range, IsSizePair, HasSize, has_size};
+ghost use Rattle.dip_sets.specs.SizeRanges.{IsWithin, is_within, IsMeet, meet, IsCover, cover};
 
 use dip_lists::Same;
 use std::marker::Model;
 
-/// The transfer sizes, in bytes, that an operation may have: none, or the powers of two from a least to a greatest
-/// one, at most 256.
+/// The transfer sizes, in bytes, that an operation may have: none, or the powers of two from a least to a
+/// greatest one, at most 256.
 #[derive(Clone, Copy, Debug, PartialEq, Eq)]
 pub struct Sizes {
     min: u32,
@@ -30,7 +30,7 @@ impl Sizes {
     /// The powers of two from `min` to `max` bytes; `None` exactly unless both are powers of two and
     /// `1 <= min <= max <= 256`.
     pub fn new(min: u32, max: u32) -> Option<Sizes>
-        ensures value { result ≡ (if is_size_pair min max then Some (record { min = min; max = max }) else None) }
+        ensures value { result ≡ (if is_size_pair min max then Some (size_range min max) else None) }
         ensures pair { IsSome result ↔ IsSizePair min max }
     {
         if min.is_power_of_two() && max.is_power_of_two() && min <= max && max <= 256 {

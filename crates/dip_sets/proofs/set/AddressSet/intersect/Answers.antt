@@ -1,6 +1,7 @@
 use Rattle.std.proofs.Common.{sym, refl, arith}
 use Rattle.std.proofs.lemmas.Nat.{or_lt, and_le_l}
-use Rattle.dip_sets.proofs.Bits.{common_is, common_apart, disjoint_from_test}
+use Rattle.dip_sets.proofs.Bits.{common_is, common_apart}
+use Rattle.dip_sets.proofs.Members.{disjoint_from_test}
 use Rattle.dip_sets.proofs.set.AddressSet.intersect.Goals as goal
 
 pub returns-then-not-overlaps-clause-none : goal.returns-then-not-overlaps-clause-none

@@ -1,6 +1,5 @@
-use Rattle.std.proofs.Common.{◌≡◌, arith}
-use Rattle.dip_sets.specs.Differences.{pieces}
-use Rattle.dip_sets.proofs.Pieces.{pieces_apart, pieces_together, pieces_push, pieces_stay, pieces_all}
+use Rattle.std.proofs.Common.{arith}
+use Rattle.dip_sets.proofs.Pieces.{pieces_apart, pieces_each, pieces_together, pieces_push, pieces_stay, pieces_all}
 use Rattle.dip_sets.proofs.set.AddressSet.pieces.Goals as goal
 
 pub loop-place-preserved-in-Continue-1 : goal.loop-place-preserved-in-Continue-1
@@ -26,3 +25,6 @@ returns-clause-members c =
 
 pub returns-clause-disjoint : goal.returns-clause-disjoint
 returns-clause-disjoint c = rw (returns-clause-list c) (pieces_apart _ _ c.cut_bits-cut.ensures.this c.cut_bits-cut.ensures.that)
+
+pub returns-clause-pieces : goal.returns-clause-pieces
+returns-clause-pieces c = rw (returns-clause-list c) (pieces_each _ _ c.cut_bits-cut.ensures.this c.cut_bits-cut.ensures.that)

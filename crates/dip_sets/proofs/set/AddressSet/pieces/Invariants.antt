@@ -1,5 +1,5 @@
 use Rattle.std.proofs.Common.{◌≡◌, ◌≤◌, ◌++◌, map}
-use Rattle.dip_sets.specs.Differences.{cut_bits, piece, places_of, pieces}
+use Rattle.dip_sets.specs.Differences.{piece, places_of, pieces}
 use Rattle.dip_sets.proofs.set.AddressSet.pieces.Given as goal
 
 abbrev pub invariant-loop-place : goal.invariant-loop-place

@@ -1,5 +1,5 @@
 use Rattle.std.proofs.Common.{◌≡◌, [], ◌∷◌, sym, rules}
-use Rattle.dip_sets.proofs.Bits.{disjoint_from_test}
+use Rattle.dip_sets.proofs.Members.{disjoint_from_test}
 use Rattle.dip_sets.proofs.Pieces.{alone_together}
 use Rattle.dip_sets.proofs.set.AddressSet.subtract.Goals as goal
 

@@ -1,4 +1,3 @@
-use Rattle.std.proofs.Common.{arith}
 use Rattle.dip_sets.proofs.Ranges.{cover_first, cover_second, cover_both, cover_range}
 use Rattle.dip_sets.proofs.sizes.Sizes.cover.Goals as goal
 

@@ -1,5 +1,5 @@
-use Rattle.std.proofs.Common.{rules, refl}
-use Rattle.dip_sets.proofs.Ranges.{size_pair_is, pair_from_test}
+use Rattle.std.proofs.Common.{rules}
+use Rattle.dip_sets.proofs.Ranges.{pair_from_test}
 use Rattle.dip_sets.proofs.sizes.Sizes.new.Goals as goal
 
 pub returns-then-max-le256-clause-pair : goal.returns-then-max-le256-clause-pair
