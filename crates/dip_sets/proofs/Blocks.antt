@@ -8,7 +8,7 @@ use Rattle.std.proofs.lemmas.Bool.{cases_lt}
 use Rattle.std.proofs.lemmas.Bool.Decides.{nat_tests}
 use Rattle.std.proofs.lemmas.List.Elements.{Contains-get_or}
 use Rattle.dip_sets.specs.Sets.{Pattern, In, Disjoint}
-use Rattle.dip_sets.specs.Regions.{IsInRegion, IsBlock, block_set, IsSplit, block_below, first_sets, region_sets}
+use Rattle.dip_sets.specs.Regions.{InRegion, IsBlock, block_set, IsSplit, block_below, first_sets, region_sets}
 use Rattle.dip_sets.proofs.Lists.{any_head, any_tail, any_cases, any_none, pairs_cons, pairs_none}
 use Rattle.dip_sets.proofs.Pieces.{shifted_bits}
 use Rattle.dip_sets.proofs.Powers.{power_pos}
@@ -124,7 +124,7 @@ split_unique start size (s ∷ a) (t ∷ b) (block, is, e, rest) (block2, is2, e
     let first : s ≡ t = e ∙ ap (block_set start) same ∙ sym e2 in
     cc
 
-pub split_members : (start size : ℕ) (sets : List Pattern) → IsSplit start size sets → (x : ℕ) → Any (λ s. In s x) sets ↔ IsInRegion start size x
+pub split_members : (start size : ℕ) (sets : List Pattern) → IsSplit start size sets → (x : ℕ) → Any (λ s. In s x) sets ↔ InRegion start size x
 split_members start size [] h x = (λ a. absurd (any_none (λ s. In s x) a), λ (low, high). absurd (omega arith))
 split_members start size (s ∷ sets) (block, is, e, rest) x =
     let here : In s x ↔ ((start ≤ x) × (x < start + block)) = rw e (block_members start size block x is) in

@@ -7,7 +7,7 @@ use Rattle.std.proofs.lemmas.Bool.{cases_lt}
 use Rattle.std.proofs.lemmas.List.Elements.{Contains-get_or}
 use Rattle.std.specs.List.{AllZip}
 use Rattle.dip_sets.specs.Sets.{Pattern, IsSet, In, Overlap, Disjoint}
-use Rattle.dip_sets.specs.Differences.{cut_bits, cut_from, piece, IsInPiece, places_of, pieces, ArePieces, IsPiece, IsInDifference}
+use Rattle.dip_sets.specs.Differences.{cut_bits, cut_from, piece, InPiece, places_of, pieces, ArePieces, IsPiece, InDifference}
 use Rattle.dip_sets.proofs.Bits.{and_not_bits, apart_bits, shifted_one}
 use Rattle.dip_sets.proofs.Lists.{any_head, any_tail, any_cases, any_none, pairs_cons, pairs_none}
 
@@ -106,7 +106,7 @@ module _ (s t : Pattern) (k x : ℕ) (is_s : IsSet s) (is_t : IsSet t) where
     | inr ge ↦ (ge, sym (high_bits (cut_bits s t) k i ge) ∙ one)
   ]
 
-  pub piece_is : bit_at (cut_bits s t) k ≡ 1 → In (piece s t k) x ↔ IsInPiece s t k x
+  pub piece_is : bit_at (cut_bits s t) k ≡ 1 → In (piece s t k) x ↔ InPiece s t k x
   unfolding At
   piece_is here = (
     λ h. record {
@@ -220,7 +220,7 @@ module _ (s t : Pattern) (is_s : IsSet s) (is_t : IsSet t) where
     ])
   ]
 
-  piece_of : (x k : ℕ) → Any (λ p. In p x) (below k) → (j : ℕ) × (j < k) × (bit_at (cut_bits s t) j ≡ 1) × IsInPiece s t j x
+  piece_of : (x k : ℕ) → Any (λ p. In p x) (below k) → (j : ℕ) × (j < k) × (bit_at (cut_bits s t) j ≡ 1) × InPiece s t j x
   piece_of x zero h = absurd (any_none (λ p. In p x) (rw below_none at h))
   piece_of x (suc k) h = elim (zero_or_one (bit_at (cut_bits s t) k) (bit_at-lt _ k)) [
     | inl none ↦ let r = piece_of x k (rw (below_without k none) at h) in (r.0, omega (arith, r.1), r.2, r.3)
@@ -249,7 +249,7 @@ module _ (s t : Pattern) (is_s : IsSet s) (is_t : IsSet t) where
   unfolding Agrees
   agrees_above x i above one = absurd (omega (arith, bit_at_above (cut_bits s t) 48 i (cut_fits s t is_s) above))
 
-  together : (x : ℕ) → Overlap s t → Any (λ p. In p x) (below 48) ↔ IsInDifference s t x
+  together : (x : ℕ) → Overlap s t → Any (λ p. In p x) (below 48) ↔ InDifference s t x
   together x meet = (
     λ h.
         let r = piece_of x 48 h in
@@ -274,13 +274,13 @@ module _ (s t : Pattern) (is_s : IsSet s) (is_t : IsSet t) where
   unfolding below
   pieces_each = each_piece 48
 
-  pub pieces_together : Overlap s t → (x : ℕ) → Any (λ p. In p x) (pieces s t) ↔ IsInDifference s t x
+  pub pieces_together : Overlap s t → (x : ℕ) → Any (λ p. In p x) (pieces s t) ↔ InDifference s t x
   unfolding below
   pieces_together meet x = together x meet
 
 -- ---- the set itself, where the two don't overlap
 
-pub alone_together : (s t : Pattern) → Disjoint s t → (x : ℕ) → Any (λ p. In p x) (s ∷ []) ↔ IsInDifference s t x
+pub alone_together : (s t : Pattern) → Disjoint s t → (x : ℕ) → Any (λ p. In p x) (s ∷ []) ↔ InDifference s t x
 alone_together s t apart x = (
   λ h. elim (any_cases (λ p. In p x) s [] h) [ inl here ↦ (here, apart x here) | inr none ↦ absurd (any_none (λ p. In p x) none) ],
   λ h. any_head (λ p. In p x) s [] h.0,

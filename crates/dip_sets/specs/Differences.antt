@@ -20,14 +20,14 @@ piece s t place = record {
 }
 
 -- the same by its numbers: those of the one set that differ from the other at the place and agree with it at the higher bits
-pub record IsInPiece (s t : Pattern) (place x : ℕ) : Type 0 where
+pub record InPiece (s t : Pattern) (place x : ℕ) : Type 0 where
   pub in_set : In s x
   pub differs : bit_at x place ≡ 1 - bit_at t.base place
   pub agrees : (i : ℕ) → place < i → bit_at (cut_bits s t) i ≡ 1 → bit_at x i ≡ bit_at t.base i
 
 -- a set has the numbers of a piece
 abbrev pub IsPiece : Pattern → Pattern → ℕ → Pattern → Type 0
-IsPiece s t place set = (x : ℕ) → In set x ↔ IsInPiece s t place x
+IsPiece s t place set = (x : ℕ) → In set x ↔ InPiece s t place x
 
 -- the places of a number's bits that are 1, below a place, the highest first
 unfoldable pub places_of : ℕ → ℕ → List ℕ
@@ -51,5 +51,5 @@ abbrev pub difference : Pattern → Pattern → List Pattern
 difference s t = cond (overlap s t) (pieces s t) (s ∷ [])
 
 -- the numbers of the one set that aren't in the other
-abbrev pub IsInDifference : Pattern → Pattern → ℕ → Type 0
-IsInDifference s t x = In s x × (In t x → ⊥)
+abbrev pub InDifference : Pattern → Pattern → ℕ → Type 0
+InDifference s t x = In s x × (In t x → ⊥)

@@ -4,8 +4,8 @@ use Rattle.std.specs.Int.{IsPowerOfTwo}
 use Rattle.dip_sets.specs.Sets.{Pattern}
 
 -- the numbers from a start on, so many as a size says
-abbrev pub IsInRegion : ℕ → ℕ → ℕ → Type 0
-IsInRegion start size x = (start ≤ x) × (x < start + size)
+abbrev pub InRegion : ℕ → ℕ → ℕ → Type 0
+InRegion start size x = (start ≤ x) × (x < start + size)
 
 -- the greatest power of two that divides a start and fits in a size
 pub record IsBlock (start size block : ℕ) : Type 0 where

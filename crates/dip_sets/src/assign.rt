@@ -71,9 +71,9 @@ pub fn assign_ranges(alloc: Global, counts: &[u32]) -> Result<IdRanges, Memory>
     requires few { length counts.now ≤ 1024 }
     requires small { All (λ count. count ≤ 1024) counts.now }
     ensures ranges { IfOk result (λ ranges. ranges ≡ assigned counts.now) }
-    ensures rounded { IfOk result (λ ranges. AllZip IsRounded counts.now ranges) }
-    ensures room { IfOk result (λ ranges. AllZip HasRoom counts.now ranges) }
-    ensures disjoint { IfOk result (λ ranges. AllPairs DisjointIds ranges) }
+    ensures rounded { IfOk result (AllZip IsRounded counts.now) }
+    ensures room { IfOk result (AllZip HasRoom counts.now) }
+    ensures disjoint { IfOk result (AllPairs DisjointIds) }
 {
     let rounded = rounded_counts(alloc, counts)?;
     ranges_of(alloc, rounded.as_slice())

@@ -1,5 +1,5 @@
 ghost use Rattle.std.specs.Prelude.{ℕ, ◌≡◌, ◌↔◌, ◌+◌, ◌<◌, ◌^◌, IsTrue};
-ghost use Rattle.dip_sets.specs.Ids.{HasId, OverlapIds, overlap_ids};
+ghost use Rattle.dip_sets.specs.Ids.{HasId, has_id, OverlapIds, overlap_ids};
 
 use dip_lists::{Items, Same};
 
@@ -26,7 +26,8 @@ impl IdRange {
 
     /// Whether the id is in the range.
     pub fn contains(&self, id: u32) -> bool
-        ensures { IsTrue result ↔ HasId self.now id }
+        ensures members { IsTrue result ↔ HasId self.now id }
+        ensures test { result ≡ has_id self.now id }
     {
         self.start <= id && id < self.end
     }

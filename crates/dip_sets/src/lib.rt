@@ -7,6 +7,8 @@ mod name;
 mod region;
 mod set;
 mod sizes;
+#[cfg(test)]
+mod tests;
 
 pub use assign::assign_ranges;
 pub use ids::{IdRange, IdRanges};

@@ -1,6 +1,6 @@
 ghost use Rattle.std.specs.Prelude.{ℕ, ◌≡◌, ◌↔◌, ◌+◌, ◌<◌, ◌≤◌, ◌^◌, IfOk, AllPairs};
 ghost use Rattle.dip_sets.specs.Sets.{InSome, Disjoint};
-ghost use Rattle.dip_sets.specs.Regions.{IsInRegion, IsBlock, IsSplit, region_sets};
+ghost use Rattle.dip_sets.specs.Regions.{InRegion, IsBlock, IsSplit, region_sets};
 
 use crate::set::{AddressSet, AddressSets};
 use dip_lists::{Items, Memory};
@@ -18,10 +18,10 @@ fn largest_block(start: u64, size: u64) -> u64
 /// greatest power of two of addresses that divides its start and fits in what is left. Size 0 gives none.
 pub fn split_region(alloc: Global, start: u64, size: u64) -> Result<AddressSets, Memory>
     requires { start + size ≤ 2 ^ 48 }
-    ensures split { IfOk result (λ sets. IsSplit start size sets) }
+    ensures split { IfOk result (IsSplit start size) }
     ensures list { IfOk result (λ sets. sets ≡ region_sets start size) }
-    ensures members { IfOk result (λ sets. (x : ℕ) → InSome sets x ↔ IsInRegion start size x) }
-    ensures disjoint { IfOk result (λ sets. AllPairs Disjoint sets) }
+    ensures members { IfOk result (λ sets. (x : ℕ) → InSome sets x ↔ InRegion start size x) }
+    ensures disjoint { IfOk result (AllPairs Disjoint) }
 {
     let mut sets = Items::new(alloc);
     let mut base = start;

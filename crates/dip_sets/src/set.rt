@@ -1,7 +1,7 @@
 ghost use Rattle.std.specs.Prelude.{ℕ, ◌≡◌, ◌≢◌, ◌+◌, ◌<◌, ◌≤◌, ◌^◌, ◌⊎◌, ◌↔◌, bit_and};
 ghost use Rattle.std.specs.Prelude.{IsTrue, IfOk, OnErr, IsNone, IfSome, AllPairs};
 ghost use Rattle.dip_sets.specs.Regions.{IsBlock, block_set};
-ghost use Rattle.dip_sets.specs.Differences.{cut_bits, piece, pieces, ArePieces, difference, IsInDifference};
+ghost use Rattle.dip_sets.specs.Differences.{cut_bits, piece, pieces, ArePieces, difference, InDifference};
 ghost use Rattle.dip_sets.specs.Sets.{In, InSome, Overlap, Disjoint, Covers, IsCommon, IsLowestClear, IsSet};
 ghost use Rattle.dip_sets.specs.Sets.{is_in, overlap, common, alignment};
 
@@ -107,13 +107,13 @@ impl AddressSet {
     }
 
     /// Disjoint sets that together hold the addresses of this set that aren't in the other one: this set
-    /// itself where the two don't overlap, and else a set for each bit that is in this mask alone, the highest
-    /// first.
+    /// itself where the two don't overlap, and else a set for each bit that is in this mask alone, the
+    /// highest first.
     pub fn subtract(&self, alloc: Global, other: &AddressSet) -> Result<AddressSets, Memory>
         ensures list { IfOk result (λ sets. sets ≡ difference self.now other.now) }
-        ensures pieces { Overlap self.now other.now → IfOk result (λ sets. ArePieces self.now other.now sets) }
-        ensures members { IfOk result (λ sets. (x : ℕ) → InSome sets x ↔ IsInDifference self.now other.now x) }
-        ensures disjoint { IfOk result (λ sets. AllPairs Disjoint sets) }
+        ensures pieces { Overlap self.now other.now → IfOk result (ArePieces self.now other.now) }
+        ensures members { IfOk result (λ sets. (x : ℕ) → InSome sets x ↔ InDifference self.now other.now x) }
+        ensures disjoint { IfOk result (AllPairs Disjoint) }
     {
         if self.overlaps(other) {
             return self.pieces(alloc, other);
@@ -155,7 +155,7 @@ impl AddressSet {
         self.mask & !other.mask
     }
 
-    // The addresses whose bit at this place differs from the other set's and whose higher cut bits agree with it.
+    // The addresses whose bit at this place differs from the other set's, and whose higher cut bits agree.
     fn piece(&self, other: &AddressSet, place: u32) -> AddressSet
         requires { place < 48 }
         ensures { result ≡ piece self.now other.now place }
@@ -171,9 +171,9 @@ impl AddressSet {
     fn pieces(&self, alloc: Global, other: &AddressSet) -> Result<AddressSets, Memory>
         requires { Overlap self.now other.now }
         ensures list { IfOk result (λ sets. sets ≡ pieces self.now other.now) }
-        ensures pieces { IfOk result (λ sets. ArePieces self.now other.now sets) }
-        ensures members { IfOk result (λ sets. (x : ℕ) → InSome sets x ↔ IsInDifference self.now other.now x) }
-        ensures disjoint { IfOk result (λ sets. AllPairs Disjoint sets) }
+        ensures pieces { IfOk result (ArePieces self.now other.now) }
+        ensures members { IfOk result (λ sets. (x : ℕ) → InSome sets x ↔ InDifference self.now other.now x) }
+        ensures disjoint { IfOk result (AllPairs Disjoint) }
     {
         let cut = self.cut_bits(other);
         let mut sets = Items::new(alloc);
