@@ -2,7 +2,7 @@ ghost use Rattle.std.specs.Prelude.{◌≡◌, ◌↔◌, Some, None, if◌then�
 ghost use Rattle.std.specs.List.{list_all};
 ghost use Rattle.dip_sets.specs.Names as names;
 
-use dip_lists::Memory;
+use dip_lists::{Duplicate, Memory, Same};
 use std::alloc::Global;
 use std::marker::Model;
 
@@ -95,5 +95,17 @@ impl Name {
         ensures form { IsTrue (names.is_name self.now) }
     {
         self.text.as_str()
+    }
+}
+
+impl Same for Name {
+    fn same(&self, other: &Name) -> bool {
+        self.text.as_bytes() == other.text.as_bytes()
+    }
+}
+
+impl Duplicate for Name {
+    fn duplicate(&self, alloc: Global) -> Result<Name, Memory> {
+        self.copy(alloc)
     }
 }
