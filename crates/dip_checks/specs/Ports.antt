@@ -62,3 +62,11 @@ pub record IsSolution (nodes : List NodeEntry) (edges : List Edge) (solution : S
 pub record IsAccepted (design : Design) (accepted : Accepted) : Type 0 where
   pub edges : accepted.edges ≡ edges_of design.binds
   pub solution : IsSolution design.nodes accepted.edges accepted.solution
+
+-- the same as a value
+abbrev pub accepted_of : Design → Accepted
+accepted_of design =
+    record {
+      edges = edges_of design.binds;
+      solution = record { down = map (down_of design.nodes) (edges_of design.binds); up = map (up_of design.nodes) (edges_of design.binds) };
+    }

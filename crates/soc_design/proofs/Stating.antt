@@ -1,5 +1,5 @@
 -- What the items of an array state, item by item.
-use Rattle.std.proofs.Common.{ℕ, ◌≡◌, ◌<◌, ◌≤◌, ◌+◌, List, [], ◌∷◌, ◌++◌, drop, length, get_or, Bool, true, false, ◌||◌, nat_le, Option, Some, None, is_none, refl, sym, ◌∙◌, ap, append_assoc, arith}
+use Rattle.std.proofs.Common.{ℕ, ◌≡◌, ◌<◌, ◌≤◌, ◌+◌, List, [], ◌∷◌, ◌++◌, drop, length, get_or, Bool, true, false, ◌||◌, nat_le, Option, Some, None, is_none, refl, sym, ◌∙◌, ap, append_assoc, length-append, arith}
 use Rattle.std.specs.Option.{option_map}
 use Rattle.std.proofs.lemmas.Bool.Decides.{nat_tests}
 use Rattle.toml.specs.declared.value.Value.{Value}
@@ -26,3 +26,6 @@ states_more states place values value stated x is lt e =
 -- a place within the allowed number, and something stated there
 pub within : {A : Type 0} (most place : ℕ) (found : Option A) (x : A) → place < most → found ≡ Some x → (nat_le most place || is_none found) ≡ false
 within most place found x lt e = rw e (grind (arith, nat_tests))
+
+pub one_more : {A : Type 0} (stated : List A) (x : A) (n : ℕ) → length stated ≡ n → length (stated ++ x ∷ []) ≡ n + 1
+one_more stated x n e = omega (arith, e, length-append stated (x ∷ []))

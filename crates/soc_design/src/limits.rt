@@ -1,4 +1,4 @@
-ghost use Rattle.std.specs.Prelude.{◌≡◌, ◌≤◌, ◌<◌, ◌^◌, ◌+◌, length, IsTrue, IfOk, IfErr, IfSome, OnOk, Some, None};
+ghost use Rattle.std.specs.Prelude.{◌≡◌, ◌≤◌, ◌<◌, ◌^◌, ◌+◌, length, IsTrue, IfOk, IfErr, IfSome, IfNone, OnOk, Some, None};
 ghost use Rattle.toml.specs.Data.{get_member};
 ghost use Rattle.toml.specs.View.{table_view, view, items_view};
 ghost use Rattle.dip_sets.specs.Names as names;
@@ -6,7 +6,7 @@ ghost use Rattle.dip_lists.specs.First.{first, first_failing, failure_of};
 ghost use Rattle.std.specs.Option.{option_map};
 ghost use Rattle.soc_design.specs.Stated as spec;
 ghost use Rattle.dip_graph.specs.Faults.{IsFaultOf};
-ghost use Rattle.soc_design.specs.Reading.{count, nodes_in, failing, at_top, top_is_beyond, node_is_beyond, bind_is_beyond, beyond_nodes, beyond_binds, limit_checks};
+ghost use Rattle.soc_design.specs.Reading.{count, nodes_in, binds_in, failing, at_top, top_is_beyond, node_is_beyond, bind_is_beyond, beyond_nodes, beyond_binds, limit_checks};
 
 use crate::tables::{first_bind, first_node, tables_in};
 use dip_graph::{Fault, NodeEntry, NodeKind, Nodes};
@@ -248,6 +248,7 @@ fn stated_nodes(alloc: Global, nodes: &[Value], entry: u64) -> Result<Nodes, Fau
     ensures ok { IfOk result (λ stated. spec.all_of spec.node_of (items_view nodes.now) ≡ Some stated) }
     ensures passes { IfOk result (λ _. first (failing node_is_beyond 0 entry (items_view nodes.now)) ≡ None) }
     ensures few { IfOk result (λ _. length nodes.now ≤ 256) }
+    ensures counted { IfOk result (λ stated. length stated ≡ length nodes.now) }
     ensures err { IfErr result (IsFaultOf (option_map (failure_of 3) (first (failing node_is_beyond 0 entry (items_view nodes.now))))) }
 {
     let mut stated = Items::new(alloc);
@@ -270,7 +271,8 @@ fn stated_nodes(alloc: Global, nodes: &[Value], entry: u64) -> Result<Nodes, Fau
 // The first bind past the allowed number.
 fn bind_beyond(binds: &[Value], entry: u64) -> Option<u64>
     requires { entry + length binds.now < 2 ^ 64 }
-    ensures { result ≡ first (failing bind_is_beyond 0 entry (items_view binds.now)) }
+    ensures value { result ≡ first (failing bind_is_beyond 0 entry (items_view binds.now)) }
+    ensures few { IfNone result (length binds.now ≤ 1024) }
 {
     if binds.len() > MOST_BINDS {
         Some(entry + MOST_BINDS as u64)
@@ -337,6 +339,7 @@ fn heading_within(alloc: Global, table: &Table) -> Result<Heading, Fault>
 fn nodes_within(alloc: Global, table: &Table) -> Result<Nodes, Fault>
     ensures ok { IfOk result (λ nodes. spec.all_of spec.node_of (nodes_in (table_view table.now)) ≡ Some nodes) }
     ensures few { IfOk result (λ _. count (nodes_in (table_view table.now)) ≤ 256) }
+    ensures counted { IfOk result (λ nodes. length nodes ≡ count (nodes_in (table_view table.now))) }
     ensures passes { IfOk result (λ _. first (beyond_nodes (table_view table.now)) ≡ None) }
     ensures err { IfErr result (IsFaultOf (option_map (failure_of 3) (first (beyond_nodes (table_view table.now))))) }
 {
@@ -346,6 +349,7 @@ fn nodes_within(alloc: Global, table: &Table) -> Result<Nodes, Fault>
 // A file without a bind past the allowed number.
 fn binds_within(table: &Table) -> Result<(), Fault>
     ensures passes { OnOk result (first (beyond_binds (table_view table.now)) ≡ None) }
+    ensures few { OnOk result (count (binds_in (table_view table.now)) ≤ 1024) }
     ensures err { IfErr result (IsFaultOf (option_map (failure_of 3) (first (beyond_binds (table_view table.now))))) }
 {
     match bind_beyond(tables_in(table, "bind"), first_bind(table)) {
@@ -358,7 +362,9 @@ fn binds_within(table: &Table) -> Result<(), Fault>
 pub fn limited(alloc: Global, table: &Table) -> Result<LimitedFile, Fault>
     ensures heading { IfOk result (λ file. spec.heading_of (table_view table.now) ≡ Some file.heading) }
     ensures nodes { IfOk result (λ file. spec.all_of spec.node_of (nodes_in (table_view table.now)) ≡ Some file.nodes) }
-    ensures few { IfOk result (λ _. count (nodes_in (table_view table.now)) ≤ 256) }
+    ensures few_nodes { IfOk result (λ _. count (nodes_in (table_view table.now)) ≤ 256) }
+    ensures counted { IfOk result (λ file. length file.nodes ≡ count (nodes_in (table_view table.now))) }
+    ensures few_binds { IfOk result (λ _. count (binds_in (table_view table.now)) ≤ 1024) }
     ensures passes { IfOk result (λ _. first_failing (limit_checks (table_view table.now)) ≡ None) }
     ensures err { IfErr result (IsFaultOf (first_failing (limit_checks (table_view table.now)))) }
 {

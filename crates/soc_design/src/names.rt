@@ -81,6 +81,7 @@ fn stated_binds(alloc: Global, names: &Names, binds: &[Value], entry: u64) -> Re
     requires few { length names.now ≤ 256 }
     requires entries { entry + length binds.now < 2 ^ 64 }
     ensures ok { IfOk result (λ stated. spec.all_of (spec.bind_of names.now) (items_view binds.now) ≡ Some stated) }
+    ensures counted { IfOk result (λ stated. length stated ≡ length binds.now) }
     ensures passes { IfOk result (λ _. first (failing (bind_is_unnamed names.now) 0 entry (items_view binds.now)) ≡ None) }
     ensures err { IfErr result (IsFaultOf (option_map (failure_of 4) (first (failing (bind_is_unnamed names.now) 0 entry (items_view binds.now))))) }
 {
@@ -110,6 +111,7 @@ fn node_names(alloc: Global, top: &str, table: &Table) -> Result<Names, Fault>
 fn binds_between(alloc: Global, names: &Names, table: &Table) -> Result<Binds, Fault>
     requires { length names.now ≤ 256 }
     ensures ok { IfOk result (λ binds. spec.all_of (spec.bind_of names.now) (reading.binds_in (table_view table.now)) ≡ Some binds) }
+    ensures counted { IfOk result (λ binds. length binds ≡ reading.count (reading.binds_in (table_view table.now))) }
     ensures passes { IfOk result (λ _. first (reading.unnamed_binds_in names.now (table_view table.now)) ≡ None) }
     ensures err { IfErr result (IsFaultOf (option_map (failure_of 4) (first (reading.unnamed_binds_in names.now (table_view table.now))))) }
 {
@@ -121,6 +123,7 @@ fn binds_between(alloc: Global, names: &Names, table: &Table) -> Result<Binds, F
 pub fn named_binds(alloc: Global, top: &str, table: &Table) -> Result<Binds, Fault>
     requires { reading.count (reading.nodes_in (table_view table.now)) ≤ 256 }
     ensures ok { IfOk result (λ binds. spec.all_of (spec.bind_of (reading.node_names (table_view table.now))) (reading.binds_in (table_view table.now)) ≡ Some binds) }
+    ensures counted { IfOk result (λ binds. length binds ≡ reading.count (reading.binds_in (table_view table.now))) }
     ensures passes { IfOk result (λ _. first_failing (reading.named_checks top.now (table_view table.now)) ≡ None) }
     ensures err { IfErr result (IsFaultOf (first_failing (reading.named_checks top.now (table_view table.now)))) }
 {

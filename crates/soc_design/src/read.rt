@@ -58,6 +58,8 @@ fn design_of(alloc: Global, file: LimitedFile, binds: Binds) -> Result<Design, M
 
 fn design_in(alloc: Global, table: &Table) -> Result<Design, Fault>
     ensures ok { IfOk result (λ design. spec.design_of (table_view table.now) ≡ Some design) }
+    ensures nodes { IfOk result (λ design. length design.nodes ≤ 256) }
+    ensures binds { IfOk result (λ design. length design.binds ≤ 1024) }
     ensures passes { IfOk result (λ _. first_failing (spec.tree_checks (table_view table.now)) ≡ None) }
     ensures err { IfErr result (IsFaultOf (first_failing (spec.tree_checks (table_view table.now)))) }
 {
@@ -75,6 +77,8 @@ fn design_in(alloc: Global, table: &Table) -> Result<Design, Fault>
 /// table, then come the modules, the nodes and the binds, each in file order. After `Fault::Memory` nothing is known.
 pub fn read_design(alloc: Global, bytes: &[u8]) -> Result<Design, Fault>
     ensures ok { IfOk result (λ design. spec.stated_design bytes.now ≡ Some design) }
+    ensures nodes { IfOk result (λ design. length design.nodes ≤ 256) }
+    ensures binds { IfOk result (λ design. length design.binds ≤ 1024) }
     ensures passes { IfOk result (λ _. first_failing (spec.file_checks bytes.now) ≡ None) }
     ensures err { IfErr result (IsFaultOf (first_failing (spec.file_checks bytes.now))) }
 {

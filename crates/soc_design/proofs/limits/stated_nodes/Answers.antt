@@ -1,9 +1,9 @@
-use Rattle.std.proofs.Common.{◌∙◌, sym, arith}
+use Rattle.std.proofs.Common.{◌∙◌, ap, sym, arith, length}
 use Rattle.toml.specs.View.{view}
 use Rattle.soc_design.specs.Stated as spec
 use Rattle.soc_design.specs.Reading.{node_is_beyond, most_nodes}
 use Rattle.soc_design.proofs.Failing.{passes}
-use Rattle.soc_design.proofs.Stating.{states_more, within}
+use Rattle.soc_design.proofs.Stating.{states_more, within, one_more}
 use Rattle.soc_design.proofs.limits.stated_nodes.Goals as goal
 
 pub loop-place-preserved : goal.loop-place-preserved
@@ -11,6 +11,7 @@ loop-place-preserved c =
     let states = sym c.in_ok-node.ensures ∙ c.in-Some.is in
     record {
       few = omega arith;
+      counted = ap length c.in_ok-push.ensures.ok ∙ one_more _ _ _ c.loop-place.invariant.counted;
       stated =
         rw c.in_ok-push.ensures.ok
         (states_more spec.node_of c.loop-place.place c.args.nodes.now c.index-nodes-place.result _ _ c.index-nodes-place.is c.loop-place-test.true states

@@ -9,3 +9,6 @@ binds_between-requires c =
     let n : length c.in_ok-names.names ≡ count (nodes_in (table_view c.args.table.now)) =
     ap length c.in_ok-names.ensures.ok ∙ count-names_at (nodes_in (table_view c.args.table.now)) in
     omega arith
+
+pub returns-clause-ok : goal.returns-clause-ok
+returns-clause-ok c = rw (← c.in_ok-names.ensures.ok) c.binds_between.ensures.ok

@@ -1,0 +1,3 @@
+pub mod Words
+pub mod Designs
+pub mod Answers
