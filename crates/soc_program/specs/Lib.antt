@@ -1,3 +1,4 @@
 pub mod Words
 pub mod Designs
+pub mod Printing
 pub mod Answers
