@@ -1,6 +1,11 @@
 //! What the program prints: the line of each answer, and the map of a design.
 #![tactic(auto)]
 
+mod map;
+mod ports;
+mod slaves;
 mod status;
+mod writing;
 
-pub use status::Status;
+pub use map::{Bytes, map_text};
+pub use status::{Status, fault_text};
