@@ -26,9 +26,9 @@ pub record IsLoaded (words : List (List ℕ)) (files : FilesSeen) (name bytes : 
   pub first : AreFirst most_loaded (files.content name) bytes
 
 -- a text that is due: the usage, the line of a failed load, or what the loaded design calls for
-data Due (words : List (List ℕ)) (files : FilesSeen) (text : List ℕ) : Type 0 where
-  usage : text ≡ line_of Usage → Due words files text
-  read_failed : text ≡ line_of ReadFailed → Due words files text
+pub data Due (words : List (List ℕ)) (files : FilesSeen) (text : List ℕ) : Type 0 where
+  usage : design_named words ≡ None → text ≡ line_of Usage → Due words files text
+  read_failed : (name : List ℕ) → design_named words ≡ Some name → text ≡ line_of ReadFailed → Due words files text
   design : (name bytes : List ℕ) → IsLoaded words files name bytes → text ≡ text_of bytes (first_failure bytes) → Due words files text
 
 -- What a run says of the world before and after it.
@@ -41,6 +41,7 @@ pub record Answered (words : List (List ℕ)) (before after : World) (result : S
       → (name bytes : List ℕ) × IsLoaded words before.files name bytes × (first_failure bytes ≡ Some (failure_of check subject))
   pub done : result ≡ Done
       → (name bytes : List ℕ) × IsLoaded words before.files name bytes × (first_failure bytes ≡ None) × Writes (map_of bytes) before.out after.out
+  pub memory : result ≡ Memory → (name : List ℕ) × (design_named words ≡ Some name)
   -- what was printed
   pub nothing : result ≡ Memory → after.out.written ≡ before.out.written
   pub line : result ≢ Done → result ≢ WriteFailed → result ≢ Memory → Writes (line_of result) before.out after.out

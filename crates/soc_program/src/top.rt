@@ -47,7 +47,8 @@ fn map_design(alloc: Global, bytes: &[u8]) -> Result<Bytes, Fault>
 {
     let design = read_design(alloc, bytes)?;
     let accepted = check_design(alloc, &design)?;
-    Ok(map_text(alloc, &design, &accepted)?)
+    let text = map_text(alloc, &design, &accepted)?;
+    Ok(text)
 }
 
 // Runs on the bytes of a design file.
