@@ -171,9 +171,6 @@ unfolding places_of
 places_none n = refl
 
 module _ (s t : Pattern) (is_s : IsSet s) (is_t : IsSet t) where
-  cut : ℕ
-  cut = cut_bits s t
-
   -- the pieces at places below one
   below : ℕ → List Pattern
   below k = map (piece s t) (places_of k (cut_bits s t))
