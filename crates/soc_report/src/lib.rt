@@ -9,3 +9,6 @@ mod writing;
 
 pub use map::{Bytes, map_text};
 pub use status::{Status, fault_text};
+
+#[cfg(test)]
+mod tests;

@@ -21,8 +21,10 @@ fn add_design_line(text: &mut Text, name: &[u8], edges: usize) -> Result<(), Mem
     text.add(b"\n")
 }
 
-/// The map of an accepted design: a line with its name and how many edges it has, then for each port of a source a
-/// line with its ids and the width of its bus in bytes, and below it a line for each address set that it reaches.
+/// The map of an accepted design: a line with its name and how many edges it has; then for each port of a
+/// source, by node and then by port, a line with its ids and the width of its bus in bytes, and below it a
+/// line for each address set that it reaches, with the sizes of each operation there. The error is want of
+/// memory.
 #[tactic(auto, unfolding(crate::specs::MapText::map_text))]
 pub fn map_text(alloc: Global, design: &Design, accepted: &Accepted) -> Result<Bytes, Memory>
     ensures { IfOk result (λ text. text ≡ spec.map_text design.now accepted.now) }

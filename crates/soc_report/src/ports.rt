@@ -1,5 +1,5 @@
 ghost use Rattle.std.specs.Prelude.{◌≡◌, ◌++◌, OnOk};
-ghost use Rattle.soc_report.specs.MapText as spec;
+ghost use Rattle.soc_report.specs.MapText.{all_lines, ids_of, lines_if_from, node_lines, port_line, port_lines};
 
 use crate::slaves::add_slave_lines;
 use crate::writing::Text;
@@ -8,7 +8,7 @@ use dip_lists::Memory;
 use tl_params::UpPort;
 
 fn ids_of(kind: &NodeKind) -> u32
-    ensures { result ≡ spec.ids_of kind.now }
+    ensures { result ≡ ids_of kind.now }
 {
     match kind {
         NodeKind::Source { ids, .. } => *ids,
@@ -18,7 +18,7 @@ fn ids_of(kind: &NodeKind) -> u32
 
 #[tactic(auto, unfolding(crate::specs::MapText::port_line))]
 fn add_port_line(text: &mut Text, source: &NodeEntry, port: u32, beat: u32) -> Result<(), Memory>
-    ensures { OnOk result (text.new ≡ text.old ++ spec.port_line source.now port beat) }
+    ensures { OnOk result (text.new ≡ text.old ++ port_line source.now port beat) }
 {
     text.add(b"port ")?;
     text.add(source.name.bytes())?;
@@ -39,7 +39,7 @@ fn add_port_lines(
     edge: &Edge,
     up: &UpPort,
 ) -> Result<(), Memory>
-    ensures { OnOk result (text.new ≡ text.old ++ spec.port_lines nodes.now source.now edge.now up.now) }
+    ensures { OnOk result (text.new ≡ text.old ++ port_lines nodes.now source.now edge.now up.now) }
 {
     add_port_line(text, source, edge.from_port, up.beat)?;
     add_slave_lines(text, nodes, up.slaves.as_slice())
@@ -54,7 +54,7 @@ fn add_lines_if_from(
     edge: &Edge,
     up: &UpPort,
 ) -> Result<(), Memory>
-    ensures { OnOk result (text.new ≡ text.old ++ spec.lines_if_from nodes.now number source.now edge.now up.now) }
+    ensures { OnOk result (text.new ≡ text.old ++ lines_if_from nodes.now number source.now edge.now up.now) }
 {
     if edge.from as usize == number {
         add_port_lines(text, nodes, source, edge, up)
@@ -71,7 +71,7 @@ fn add_node_lines(
     edges: &[Edge],
     ups: &[UpPort],
 ) -> Result<(), Memory>
-    ensures { OnOk result (text.new ≡ text.old ++ spec.node_lines nodes.now number source.now edges.now ups.now) }
+    ensures { OnOk result (text.new ≡ text.old ++ node_lines nodes.now number source.now edges.now ups.now) }
 {
     for at in 0..edges.len().min(ups.len()) {
         add_lines_if_from(text, nodes, number, source, &edges[at], &ups[at])?;
@@ -86,7 +86,7 @@ pub fn add_all_lines(
     edges: &[Edge],
     ups: &[UpPort],
 ) -> Result<(), Memory>
-    ensures { OnOk result (text.new ≡ text.old ++ spec.all_lines nodes.now 0 nodes.now edges.now ups.now) }
+    ensures { OnOk result (text.new ≡ text.old ++ all_lines nodes.now 0 nodes.now edges.now ups.now) }
 {
     for (number, source) in nodes.iter().enumerate() {
         add_node_lines(text, nodes, number, source, edges, ups)?;

@@ -1,5 +1,5 @@
 ghost use Rattle.std.specs.Prelude.{◌≡◌, ◌++◌, OnOk, slice_get};
-ghost use Rattle.soc_report.specs.MapText as spec;
+ghost use Rattle.soc_report.specs.MapText.{name_of, operations_text, place_text, set_line, set_lines, set_text, sizes_text, slave_lines};
 
 use crate::writing::Text;
 use dip_graph::NodeEntry;
@@ -8,7 +8,7 @@ use dip_sets::{AddressSet, Sizes};
 use tl_params::{Ops, Slave};
 
 fn add_name(text: &mut Text, nodes: &[NodeEntry], node: u32) -> Result<(), Memory>
-    ensures { OnOk result (text.new ≡ text.old ++ spec.name_of (slice_get nodes.now node)) }
+    ensures { OnOk result (text.new ≡ text.old ++ name_of (slice_get nodes.now node)) }
 {
     match nodes.get(node as usize) {
         Some(entry) => text.add(entry.name.bytes()),
@@ -18,7 +18,7 @@ fn add_name(text: &mut Text, nodes: &[NodeEntry], node: u32) -> Result<(), Memor
 
 #[tactic(auto, unfolding(crate::specs::MapText::place_text))]
 fn add_place(text: &mut Text, nodes: &[NodeEntry], node: u32, port: u32) -> Result<(), Memory>
-    ensures { OnOk result (text.new ≡ text.old ++ spec.place_text nodes.now node port) }
+    ensures { OnOk result (text.new ≡ text.old ++ place_text nodes.now node port) }
 {
     add_name(text, nodes, node)?;
     text.add(b".")?;
@@ -27,7 +27,7 @@ fn add_place(text: &mut Text, nodes: &[NodeEntry], node: u32, port: u32) -> Resu
 
 #[tactic(auto, unfolding(crate::specs::MapText::sizes_text))]
 fn add_sizes(text: &mut Text, key: &[u8], sizes: &Sizes) -> Result<(), Memory>
-    ensures { OnOk result (text.new ≡ text.old ++ spec.sizes_text key.now sizes.now) }
+    ensures { OnOk result (text.new ≡ text.old ++ sizes_text key.now sizes.now) }
 {
     if sizes.max() == 0 {
         return Ok(());
@@ -42,7 +42,7 @@ fn add_sizes(text: &mut Text, key: &[u8], sizes: &Sizes) -> Result<(), Memory>
 
 #[tactic(auto, unfolding(crate::specs::MapText::operations_text))]
 fn add_operations(text: &mut Text, ops: &Ops) -> Result<(), Memory>
-    ensures { OnOk result (text.new ≡ text.old ++ spec.operations_text ops.now) }
+    ensures { OnOk result (text.new ≡ text.old ++ operations_text ops.now) }
 {
     add_sizes(text, b"get", &ops.get)?;
     add_sizes(text, b"put_full", &ops.put_full)?;
@@ -54,7 +54,7 @@ fn add_operations(text: &mut Text, ops: &Ops) -> Result<(), Memory>
 
 #[tactic(auto, unfolding(crate::specs::MapText::set_text))]
 fn add_set(text: &mut Text, set: &AddressSet) -> Result<(), Memory>
-    ensures { OnOk result (text.new ≡ text.old ++ spec.set_text set.now) }
+    ensures { OnOk result (text.new ≡ text.old ++ set_text set.now) }
 {
     text.add(b"  ")?;
     text.add_hexadecimal(set.base())?;
@@ -70,7 +70,7 @@ fn add_set_line(
     slave: &Slave,
     set: &AddressSet,
 ) -> Result<(), Memory>
-    ensures { OnOk result (text.new ≡ text.old ++ spec.set_line nodes.now slave.now set.now) }
+    ensures { OnOk result (text.new ≡ text.old ++ set_line nodes.now slave.now set.now) }
 {
     add_set(text, set)?;
     add_place(text, nodes, slave.node, slave.port)?;
@@ -79,7 +79,7 @@ fn add_set_line(
 }
 
 fn add_set_lines(text: &mut Text, nodes: &[NodeEntry], slave: &Slave) -> Result<(), Memory>
-    ensures { OnOk result (text.new ≡ text.old ++ spec.set_lines nodes.now slave.now slave.now.addresses) }
+    ensures { OnOk result (text.new ≡ text.old ++ set_lines nodes.now slave.now slave.now.addresses) }
 {
     let sets = slave.addresses.as_slice();
     for set in sets {
@@ -90,7 +90,7 @@ fn add_set_lines(text: &mut Text, nodes: &[NodeEntry], slave: &Slave) -> Result<
 
 /// Puts the lines of what a port reaches at the end of a text.
 pub fn add_slave_lines(text: &mut Text, nodes: &[NodeEntry], slaves: &[Slave]) -> Result<(), Memory>
-    ensures { OnOk result (text.new ≡ text.old ++ spec.slave_lines nodes.now slaves.now) }
+    ensures { OnOk result (text.new ≡ text.old ++ slave_lines nodes.now slaves.now) }
 {
     for slave in slaves {
         add_set_lines(text, nodes, slave)?;

@@ -1,5 +1,5 @@
-ghost use Rattle.std.specs.Prelude.{◌≡◌, ◌≤◌, ◌+◌, ◌++◌, length, take, codes, decimal};
-ghost use Rattle.soc_report.specs.Lines.{line_of, code_of};
+ghost use Rattle.std.specs.Prelude.{◌≡◌, ◌≤◌, ◌+◌, ◌++◌, length, take};
+ghost use Rattle.soc_report.specs.Lines.{line_of, code_of, refused_line};
 
 use itoa::Buffer;
 
@@ -49,7 +49,7 @@ fn add(into: &mut [u8; 256], at: usize, piece: &[u8]) -> usize
 
 fn refused_text(check: u16, subject: u64, into: &mut [u8; 256]) -> usize
     ensures within { result ≤ 256 }
-    ensures text { take result into.new ≡ codes "refused " ++ decimal check ++ codes " " ++ decimal subject ++ codes "\n" }
+    ensures text { take result into.new ≡ refused_line check subject }
 {
     let mut first = Buffer::new();
     let mut second = Buffer::new();
@@ -60,7 +60,8 @@ fn refused_text(check: u16, subject: u64, into: &mut [u8; 256]) -> usize
     add(into, end, b"\n")
 }
 
-/// Writes the line of a status, and answers how many bytes it has: 0 where nothing is printed. It takes no memory.
+/// Writes the line of a status to the front of `into`, and answers how many bytes it has: 0 where nothing is
+/// printed. It takes no memory.
 pub fn fault_text(status: &Status, into: &mut [u8; 256]) -> usize
     ensures within { result ≤ 256 }
     ensures text { take result into.new ≡ line_of status.now }
