@@ -118,7 +118,10 @@ fn sets_are_aligned(ups: &[UpPort]) -> Result<(), Fault>
     ensures err { IfErr result (IsFaultOf (option_map (failure_of 15) (first (spec.misaligned_edges ups.now)))) }
 {
     match misaligned_edge(ups) {
-        Some(subject) => Err(Fault::Check { number: 15, subject }),
+        Some(subject) => Err(Fault::Check {
+            number: 15,
+            subject,
+        }),
         None => Ok(()),
     }
 }

@@ -6,7 +6,9 @@ use dip_graph::{Edge, NodeEntry, NodeKind};
 use dip_lists::{Few, Items, Memory};
 use dip_sets::IdRange;
 use std::alloc::Global;
-use tl_params::{AddressLists, Addresses, DownPort, DownPorts, Master, Ops, Slave, UpPort, UpPorts};
+use tl_params::{
+    AddressLists, Addresses, DownPort, DownPorts, Master, Ops, Slave, UpPort, UpPorts,
+};
 
 /// What the node with a number is.
 pub fn kind_at(nodes: &[NodeEntry], node: u32) -> Option<&NodeKind>
@@ -18,7 +20,13 @@ pub fn kind_at(nodes: &[NodeEntry], node: u32) -> Option<&NodeKind>
     }
 }
 
-fn source_port(alloc: Global, node: u32, port: u32, ids: u32, emits: &Ops) -> Result<DownPort, Memory>
+fn source_port(
+    alloc: Global,
+    node: u32,
+    port: u32,
+    ids: u32,
+    emits: &Ops,
+) -> Result<DownPort, Memory>
     ensures { IfOk result (λ down. down ≡ spec.source_port node port ids emits.now) }
 {
     let mut masters = Items::new(alloc);
@@ -35,7 +43,13 @@ fn down_of(alloc: Global, nodes: &[NodeEntry], edge: &Edge) -> Result<DownPort, 
     ensures { IfOk result (λ down. down ≡ spec.down_of nodes.now edge.now) }
 {
     match kind_at(nodes, edge.from) {
-        Some(NodeKind::Source { ports: _, ids, emits }) => source_port(alloc, edge.from, edge.from_port, *ids, emits),
+        Some(
+            NodeKind::Source {
+                ports: _,
+                ids,
+                emits,
+            },
+        ) => source_port(alloc, edge.from, edge.from_port, *ids, emits),
         _ => Ok(DownPort {
             masters: Items::new(alloc),
         }),
@@ -74,7 +88,13 @@ fn up_of(alloc: Global, nodes: &[NodeEntry], edge: &Edge) -> Result<UpPort, Memo
     ensures { IfOk result (λ up. up ≡ spec.up_of nodes.now edge.now) }
 {
     match kind_at(nodes, edge.to) {
-        Some(NodeKind::Sink { beat, ports, supports }) => sink_port(alloc, edge, *beat, ports, supports),
+        Some(
+            NodeKind::Sink {
+                beat,
+                ports,
+                supports,
+            },
+        ) => sink_port(alloc, edge, *beat, ports, supports),
         _ => Ok(UpPort {
             slaves: Items::new(alloc),
             beat: 0,

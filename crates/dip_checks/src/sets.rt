@@ -50,7 +50,11 @@ fn slave_is_misaligned(slave: &Slave) -> bool
     ensures { result ≡ spec.slave_is_misaligned slave.now }
 {
     let largest = u64::from(slave.supports.largest());
-    slave.addresses.as_slice().iter().any(|set| set.alignment() < largest)
+    slave
+        .addresses
+        .as_slice()
+        .iter()
+        .any(|set| set.alignment() < largest)
 }
 
 /// Whether a set of an edge has an alignment below its slave's largest transfer.

@@ -17,9 +17,17 @@ pub type ModuleTree = Items<ModuleEntry>;
 #[derive(Drop)]
 pub enum NodeKind {
     /// Requesters: `ports` of them, each with so many source ids and these requests.
-    Source { ports: u32, ids: u32, emits: Ops },
+    Source {
+        ports: u32,
+        ids: u32,
+        emits: Ops,
+    },
     /// Responders with a bus of `beat` bytes: a port for each list of address sets.
-    Sink { beat: u32, ports: AddressLists, supports: Ops },
+    Sink {
+        beat: u32,
+        ports: AddressLists,
+        supports: Ops,
+    },
 }
 
 /// A node of a design.

@@ -61,8 +61,8 @@ some_beyond place entry [] h g = absurd (omega arith)
 some_beyond place entry (v ∷ values) h g =
     elim (below_or_there place most_binds h) [
       | inl below ↦
-        let within : place + 1 ≤ most_binds = omega arith in
-        let more : most_binds < place + 1 + length values = omega arith in
-        rw (before_limit place below) (some_beyond (place + 1) (entry + 1) values within more ∙ ap Some (next_entry entry place below))
+          let within : place + 1 ≤ most_binds = omega arith in
+          let more : most_binds < place + 1 + length values = omega arith in
+          rw (before_limit place below) (some_beyond (place + 1) (entry + 1) values within more ∙ ap Some (next_entry entry place below))
       | inr there ↦ let here : entry ≡ entry + (most_binds - place) = omega arith in rw (at_limit place there) (ap Some here)
     ]

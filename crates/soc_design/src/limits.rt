@@ -238,7 +238,11 @@ fn node_of(alloc: Global, value: &Value) -> Result<Option<NodeEntry>, Memory>
         return Ok(None);
     };
     let name = named(alloc, text)?;
-    Ok(Some(NodeEntry { name, module: 0, kind }))
+    Ok(Some(NodeEntry {
+        name,
+        module: 0,
+        kind,
+    }))
 }
 
 // The nodes that some tables state, the first of which is the entry `entry`. `Fault::Check` names check 3 and the first
@@ -325,7 +329,10 @@ fn heading_within(alloc: Global, table: &Table) -> Result<Heading, Fault>
     ensures passes { IfOk result (λ _. first (at_top (top_is_beyond (table_view table.now))) ≡ None) }
     ensures err { IfErr result (IsFaultOf (option_map (failure_of 3) (first (at_top (top_is_beyond (table_view table.now)))))) }
 {
-    let beyond = Fault::Check { number: 3, subject: 0 };
+    let beyond = Fault::Check {
+        number: 3,
+        subject: 0,
+    };
     let Some(heading) = heading_of(alloc, table)? else {
         return Err(beyond);
     };

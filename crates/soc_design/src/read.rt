@@ -6,7 +6,6 @@ ghost use Rattle.soc_design.specs.Stated as stated;
 ghost use Rattle.dip_graph.specs.Faults.{IsFaultOf};
 ghost use Rattle.soc_design.specs.Reading as spec;
 
-
 use crate::limits::{Heading, LimitedFile, limited};
 use crate::names::named_binds;
 use crate::shape::misshapen_entry;

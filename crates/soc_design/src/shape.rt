@@ -10,15 +10,26 @@ ghost use Rattle.soc_design.specs.Reading.{failing, shape_checks};
 use crate::tables::{first_bind, first_node, tables_in};
 use toml::{Table, Value};
 use toml_shape::{
-    integer_under, keys_among, may_have_integer, may_have_name, may_have_text, name_under, pair, tables_under,
-    text_under, under,
+    integer_under, keys_among, may_have_integer, may_have_name, may_have_text, name_under, pair,
+    tables_under, text_under, under,
 };
 
 const TOP_KEYS: [&str; 6] = ["version", "name", "policy", "module", "node", "bind"];
+
 const SOURCE_KEYS: [&str; 6] = ["name", "module", "kind", "ids", "emits", "ports"];
+
 const SINK_KEYS: [&str; 6] = ["name", "module", "kind", "beat", "addresses", "supports"];
+
 const BIND_KEYS: [&str; 3] = ["to", "from", "kind"];
-const OPERATION_KEYS: [&str; 6] = ["get", "put_full", "put_partial", "arithmetic", "logical", "intent"];
+
+const OPERATION_KEYS: [&str; 6] = [
+    "get",
+    "put_full",
+    "put_partial",
+    "arithmetic",
+    "logical",
+    "intent",
+];
 
 fn are_pairs(items: &[Value]) -> bool
     ensures { result ≡ spec.are_pairs (items_view items.now) }
@@ -75,7 +86,8 @@ fn has_operations(table: &Table, key: &str) -> bool
     ensures { result ≡ has spec.is_operations (get_member key.now (table_view table.now)) }
 {
     match under(table, key) {
-        Some(Value::Table(operations)) => keys_among(&OPERATION_KEYS, operations) && have_pairs(operations),
+        Some(Value::Table(operations)) => keys_among(&OPERATION_KEYS, operations)
+            && have_pairs(operations),
         _ => false,
     }
 }

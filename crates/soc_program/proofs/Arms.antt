@@ -61,7 +61,7 @@ on_printed words before after result name bytes found f l p (inr r) =
       refused = λ check subject h. (cc);
       done = λ h. (cc);
       memory = λ h. (cc);
-  nothing = λ h. (cc);
+      nothing = λ h. (cc);
       line = λ a b m. absurd (b r);
       part = λ h. (text_of bytes found, design name bytes l (ap (text_of bytes) f), part.1);
     }

@@ -55,4 +55,4 @@ pub record Completed (words : List (List ℕ)) (before after : World) (result : 
       → ¬ (LoadsRose name before.files after.files)
       → (result ≡ Memory) ⊎ (result ≡ WriteFailed)
       ⊎ ((result ≡ answer_of (first_failure (take most_loaded all)))
-          × Writes (text_of (take most_loaded all) (first_failure (take most_loaded all))) before.out after.out)
+      × Writes (text_of (take most_loaded all) (first_failure (take most_loaded all))) before.out after.out)

@@ -5,4 +5,6 @@ mod ops;
 mod ports;
 
 pub use ops::{Op, Ops, Policy};
-pub use ports::{AddressLists, Addresses, DownPort, DownPorts, Master, Masters, Slave, Slaves, UpPort, UpPorts};
+pub use ports::{
+    AddressLists, Addresses, DownPort, DownPorts, Master, Masters, Slave, Slaves, UpPort, UpPorts,
+};

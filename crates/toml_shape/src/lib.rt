@@ -8,7 +8,7 @@ mod value;
 
 pub use numbering::Names;
 pub use table::{
-    integer_under, is_among, keys_among, may_have_integer, may_have_name, may_have_text, name_under, number_under,
-    pair_under, table_under, tables_under, text_under, under,
+    integer_under, is_among, keys_among, may_have_integer, may_have_name, may_have_text,
+    name_under, number_under, pair_under, table_under, tables_under, text_under, under,
 };
 pub use value::{items, number_within, pair};

@@ -13,11 +13,11 @@ loop-place-preserved c =
       few = omega arith;
       counted = ap length c.in_ok-push.ensures.ok ∙ one_more _ _ _ c.loop-place.invariant.counted;
       stated =
-        rw c.in_ok-push.ensures.ok
-        (states_more spec.node_of c.loop-place.place c.args.nodes.now c.index-nodes-place.result _ _ c.index-nodes-place.is c.loop-place-test.true states
-        ∙ c.loop-place.invariant.stated);
+          rw c.in_ok-push.ensures.ok
+          (states_more spec.node_of c.loop-place.place c.args.nodes.now c.index-nodes-place.result _ _ c.index-nodes-place.is c.loop-place-test.true states
+          ∙ c.loop-place.invariant.stated);
       passes =
-        passes node_is_beyond c.loop-place.place _ _ c.args.nodes.now c.index-nodes-place.result c.index-nodes-place.is c.loop-place-test.true (omega arith)
-        (within most_nodes _ _ _ c.if-place-ge-MOST_NODES.false states)
-        ∙ c.loop-place.invariant.passes;
+          passes node_is_beyond c.loop-place.place _ _ c.args.nodes.now c.index-nodes-place.result c.index-nodes-place.is c.loop-place-test.true (omega arith)
+          (within most_nodes _ _ _ c.if-place-ge-MOST_NODES.false states)
+          ∙ c.loop-place.invariant.passes;
     }

@@ -13,18 +13,18 @@ loop-place-preserved c =
     let value = c.index-nodes-place.result in
     record {
       kept =
-        c.in_ok-add.ensures.ok
-        ∙ ap (λ names. names ++ c.name_at-name.result.now ∷ []) c.loop-place.invariant.kept
-        ∙ ap (λ name. take c.loop-place.place (names_at (items_view nodes)) ++ name ∷ []) c.name_at-name.ensures
-        ∙ sym (name_more c.loop-place.place nodes value c.index-nodes-place.is c.loop-place-test.true);
+          c.in_ok-add.ensures.ok
+          ∙ ap (λ names. names ++ c.name_at-name.result.now ∷ []) c.loop-place.invariant.kept
+          ∙ ap (λ name. take c.loop-place.place (names_at (items_view nodes)) ++ name ∷ []) c.name_at-name.ensures
+          ∙ sym (name_more c.loop-place.place nodes value c.index-nodes-place.is c.loop-place-test.true);
       passes =
-        passes (node_is_unnamed c.args.top.now (names_at (items_view nodes))) c.loop-place.place _ _ nodes value c.index-nodes-place.is c.loop-place-test.true (omega arith)
-        (neither _ _
-        (ap (λ names. is_named names (name_at (view value))) (sym c.loop-place.invariant.kept)
-        ∙ ap (is_named c.loop-place.names) (sym c.name_at-name.ensures)
-        ∙ sym c.has.ensures ∙ c.if-has.false)
-        (sym c.is_in_top.ensures ∙ c.if-not-is_in_top.false))
-        ∙ c.loop-place.invariant.passes;
+          passes (node_is_unnamed c.args.top.now (names_at (items_view nodes))) c.loop-place.place _ _ nodes value c.index-nodes-place.is c.loop-place-test.true (omega arith)
+          (neither _ _
+          (ap (λ names. is_named names (name_at (view value))) (sym c.loop-place.invariant.kept)
+          ∙ ap (is_named c.loop-place.names) (sym c.name_at-name.ensures)
+          ∙ sym c.has.ensures ∙ c.if-has.false)
+          (sym c.is_in_top.ensures ∙ c.if-not-is_in_top.false))
+          ∙ c.loop-place.invariant.passes;
     }
 
 pub returns-clause-ok : goal.returns-clause-ok

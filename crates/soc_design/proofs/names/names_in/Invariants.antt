@@ -10,6 +10,6 @@ invariant-loop-place l =
     record {
       kept : l.names ≡ take l.place (names_at (items_view l.nodes));
       passes :
-        first (failing (node_is_unnamed l.top (names_at (items_view l.nodes))) l.place (l.entry + l.place) (items_view (drop l.place l.nodes)))
-        ≡ first (failing (node_is_unnamed l.top (names_at (items_view l.nodes))) 0 l.entry (items_view l.nodes));
+          first (failing (node_is_unnamed l.top (names_at (items_view l.nodes))) l.place (l.entry + l.place) (items_view (drop l.place l.nodes)))
+          ≡ first (failing (node_is_unnamed l.top (names_at (items_view l.nodes))) 0 l.entry (items_view l.nodes));
     }
