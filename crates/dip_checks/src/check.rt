@@ -1,7 +1,6 @@
 ghost use Rattle.std.specs.Prelude.{◌≡◌, ◌<◌, ◌≤◌, ◌^◌, length, None, IfOk, IfErr, OnOk, All};
-ghost use Rattle.std.specs.Option.{option_map};
-ghost use Rattle.dip_lists.specs.First.{first, first_failing, failure_of, places};
-ghost use Rattle.dip_graph.specs.Faults.{IsFaultOf};
+ghost use Rattle.dip_lists.specs.First.{first, first_failing, places};
+ghost use Rattle.dip_graph.specs.Faults.{IsFaultAt, IsFaultOf};
 ghost use Rattle.dip_checks.specs.Checks as spec;
 ghost use Rattle.dip_checks.specs.Ports.{IsAccepted};
 ghost use Rattle.dip_checks.specs.Apart.{HasDisjointSets};
@@ -37,7 +36,7 @@ fn turned_bind(nodes: &[NodeEntry], binds: &[BindEntry]) -> Option<u64>
 // Check 6: no bind is from a sink or to a source.
 fn binds_are_straight(design: &Design) -> Result<(), Fault>
     ensures passes { OnOk result (first (spec.turned_binds design.now) ≡ None) }
-    ensures err { IfErr result (IsFaultOf (option_map (failure_of 6) (first (spec.turned_binds design.now)))) }
+    ensures err { IfErr result (IsFaultAt 6 (spec.turned_binds design.now)) }
 {
     match turned_bind(design.nodes.as_slice(), design.binds.as_slice()) {
         Some(subject) => Err(Fault::Check { number: 6, subject }),
@@ -70,7 +69,7 @@ fn unfilled_node(nodes: &[NodeEntry], binds: &[BindEntry]) -> Option<u64>
 fn nodes_are_filled(design: &Design) -> Result<(), Fault>
     requires { length design.now.nodes < 2 ^ 32 }
     ensures passes { OnOk result (first (spec.unfilled_nodes design.now) ≡ None) }
-    ensures err { IfErr result (IsFaultOf (option_map (failure_of 9) (first (spec.unfilled_nodes design.now)))) }
+    ensures err { IfErr result (IsFaultAt 9 (spec.unfilled_nodes design.now)) }
 {
     match unfilled_node(design.nodes.as_slice(), design.binds.as_slice()) {
         Some(subject) => Err(Fault::Check { number: 9, subject }),
@@ -88,7 +87,7 @@ fn edge_overlaps(alloc: Global, up: &UpPort) -> Result<bool, Memory>
 // Check 14: no two address sets of an edge have a common address.
 fn sets_are_apart(alloc: Global, ups: &[UpPort]) -> Result<(), Fault>
     ensures passes { OnOk result (first (spec.overlapping_edges ups.now) ≡ None) }
-    ensures err { IfErr result (IsFaultOf (option_map (failure_of 14) (first (spec.overlapping_edges ups.now)))) }
+    ensures err { IfErr result (IsFaultAt 14 (spec.overlapping_edges ups.now)) }
 {
     for (edge, up) in ups.iter().enumerate() {
         if edge_overlaps(alloc, up)? {
@@ -115,7 +114,7 @@ fn misaligned_edge(ups: &[UpPort]) -> Option<u64>
 // Check 15: each set's alignment is at least its slave's largest transfer.
 fn sets_are_aligned(ups: &[UpPort]) -> Result<(), Fault>
     ensures passes { OnOk result (first (spec.misaligned_edges ups.now) ≡ None) }
-    ensures err { IfErr result (IsFaultOf (option_map (failure_of 15) (first (spec.misaligned_edges ups.now)))) }
+    ensures err { IfErr result (IsFaultAt 15 (spec.misaligned_edges ups.now)) }
 {
     match misaligned_edge(ups) {
         Some(subject) => Err(Fault::Check {
@@ -142,8 +141,8 @@ fn accepted_of(alloc: Global, design: &Design) -> Result<Accepted, Memory>
 
 /// The edges and the only solution of a design.
 ///
-/// `Fault::Check` names the first of the checks 6, 9, 14 and 15 that fails, with the number of the bind, the node or the
-/// edge at which it does. After `Fault::Memory` nothing is known.
+/// `Fault::Check` names the first of the checks 6, 9, 14 and 15 that fails, with the number of the bind,
+/// the node or the edge at which it does. After `Fault::Memory` nothing is known.
 pub fn check_design(alloc: Global, design: &Design) -> Result<Accepted, Fault>
     requires nodes { length design.now.nodes ≤ 256 }
     requires binds { length design.now.binds ≤ 1024 }

@@ -1,5 +1,5 @@
-//! The checks of designs whose sources are bound directly to sinks, and what an accepted design has: its edges and the
-//! only parameters of their ports.
+//! The checks of designs whose sources are bound directly to sinks, and what an accepted design has: its
+//! edges and the only parameters of their ports.
 #![tactic(auto)]
 
 mod accepted;

@@ -72,7 +72,8 @@ fn sink_port(
     ports: &AddressLists,
     supports: &Ops,
 ) -> Result<UpPort, Memory>
-    ensures { IfOk result (λ up. up ≡ spec.sink_port edge.now.to edge.now.to_port beat ports.now supports.now) }
+    ensures { IfOk result (λ up. up ≡ spec.sink_port edge.now.to edge.now.to_port beat ports.now
+        supports.now) }
 {
     let mut slaves = Items::new(alloc);
     slaves.push(Slave {

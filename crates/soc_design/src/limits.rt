@@ -2,10 +2,9 @@ ghost use Rattle.std.specs.Prelude.{◌≡◌, ◌≤◌, ◌<◌, ◌^◌, ◌+
 ghost use Rattle.toml.specs.Data.{get_member};
 ghost use Rattle.toml.specs.View.{table_view, view, items_view};
 ghost use Rattle.dip_sets.specs.Names as names;
-ghost use Rattle.dip_lists.specs.First.{first, first_failing, failure_of};
-ghost use Rattle.std.specs.Option.{option_map};
+ghost use Rattle.dip_lists.specs.First.{first, first_failing};
 ghost use Rattle.soc_design.specs.Stated as spec;
-ghost use Rattle.dip_graph.specs.Faults.{IsFaultOf};
+ghost use Rattle.dip_graph.specs.Faults.{IsFaultAt, IsFaultOf};
 ghost use Rattle.soc_design.specs.Reading.{count, nodes_in, binds_in, failing, at_top, top_is_beyond, node_is_beyond, bind_is_beyond, beyond_nodes, beyond_binds, limit_checks};
 
 use crate::tables::{first_bind, first_node, tables_in};
@@ -245,15 +244,15 @@ fn node_of(alloc: Global, value: &Value) -> Result<Option<NodeEntry>, Memory>
     }))
 }
 
-// The nodes that some tables state, the first of which is the entry `entry`. `Fault::Check` names check 3 and the first
-// table past the allowed number, or with a number beyond its limits.
+// The nodes that some tables state, the first of which is the entry `entry`. `Fault::Check` names check 3
+// and the first table past the allowed number, or with a number beyond its limits.
 fn stated_nodes(alloc: Global, nodes: &[Value], entry: u64) -> Result<Nodes, Fault>
     requires { entry + length nodes.now < 2 ^ 64 }
     ensures ok { IfOk result (λ stated. spec.all_of spec.node_of (items_view nodes.now) ≡ Some stated) }
     ensures passes { IfOk result (λ _. first (failing node_is_beyond 0 entry (items_view nodes.now)) ≡ None) }
     ensures few { IfOk result (λ _. length nodes.now ≤ 256) }
     ensures counted { IfOk result (λ stated. length stated ≡ length nodes.now) }
-    ensures err { IfErr result (IsFaultOf (option_map (failure_of 3) (first (failing node_is_beyond 0 entry (items_view nodes.now))))) }
+    ensures err { IfErr result (IsFaultAt 3 (failing node_is_beyond 0 entry (items_view nodes.now))) }
 {
     let mut stated = Items::new(alloc);
     for (place, node) in nodes.iter().enumerate() {
@@ -327,7 +326,7 @@ pub struct LimitedFile {
 fn heading_within(alloc: Global, table: &Table) -> Result<Heading, Fault>
     ensures ok { IfOk result (λ heading. spec.heading_of (table_view table.now) ≡ Some heading) }
     ensures passes { IfOk result (λ _. first (at_top (top_is_beyond (table_view table.now))) ≡ None) }
-    ensures err { IfErr result (IsFaultOf (option_map (failure_of 3) (first (at_top (top_is_beyond (table_view table.now)))))) }
+    ensures err { IfErr result (IsFaultAt 3 (at_top (top_is_beyond (table_view table.now)))) }
 {
     let beyond = Fault::Check {
         number: 3,
@@ -344,11 +343,12 @@ fn heading_within(alloc: Global, table: &Table) -> Result<Heading, Fault>
 
 // The nodes of a file.
 fn nodes_within(alloc: Global, table: &Table) -> Result<Nodes, Fault>
-    ensures ok { IfOk result (λ nodes. spec.all_of spec.node_of (nodes_in (table_view table.now)) ≡ Some nodes) }
+    ensures ok { IfOk result (λ nodes. spec.all_of spec.node_of (nodes_in (table_view table.now)) ≡ Some
+        nodes) }
     ensures few { IfOk result (λ _. count (nodes_in (table_view table.now)) ≤ 256) }
     ensures counted { IfOk result (λ nodes. length nodes ≡ count (nodes_in (table_view table.now))) }
     ensures passes { IfOk result (λ _. first (beyond_nodes (table_view table.now)) ≡ None) }
-    ensures err { IfErr result (IsFaultOf (option_map (failure_of 3) (first (beyond_nodes (table_view table.now))))) }
+    ensures err { IfErr result (IsFaultAt 3 (beyond_nodes (table_view table.now))) }
 {
     stated_nodes(alloc, tables_in(table, "node"), first_node(table))
 }
@@ -357,7 +357,7 @@ fn nodes_within(alloc: Global, table: &Table) -> Result<Nodes, Fault>
 fn binds_within(table: &Table) -> Result<(), Fault>
     ensures passes { OnOk result (first (beyond_binds (table_view table.now)) ≡ None) }
     ensures few { OnOk result (count (binds_in (table_view table.now)) ≤ 1024) }
-    ensures err { IfErr result (IsFaultOf (option_map (failure_of 3) (first (beyond_binds (table_view table.now))))) }
+    ensures err { IfErr result (IsFaultAt 3 (beyond_binds (table_view table.now))) }
 {
     match bind_beyond(tables_in(table, "bind"), first_bind(table)) {
         Some(subject) => Err(Fault::Check { number: 3, subject }),
@@ -368,7 +368,8 @@ fn binds_within(table: &Table) -> Result<(), Fault>
 /// The top table and the nodes of a file; `Fault::Check` names check 3 and the first entry beyond the limits.
 pub fn limited(alloc: Global, table: &Table) -> Result<LimitedFile, Fault>
     ensures heading { IfOk result (λ file. spec.heading_of (table_view table.now) ≡ Some file.heading) }
-    ensures nodes { IfOk result (λ file. spec.all_of spec.node_of (nodes_in (table_view table.now)) ≡ Some file.nodes) }
+    ensures nodes { IfOk result (λ file. spec.all_of spec.node_of (nodes_in (table_view table.now)) ≡ Some
+        file.nodes) }
     ensures few_nodes { IfOk result (λ _. count (nodes_in (table_view table.now)) ≤ 256) }
     ensures counted { IfOk result (λ file. length file.nodes ≡ count (nodes_in (table_view table.now))) }
     ensures few_binds { IfOk result (λ _. count (binds_in (table_view table.now)) ≤ 1024) }

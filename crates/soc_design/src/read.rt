@@ -72,8 +72,9 @@ fn design_in(alloc: Global, table: &Table) -> Result<Design, Fault>
 
 /// The design that a file states.
 ///
-/// `Fault::Check` names the first of the checks 1 to 4 that fails, and the entry at which it does: entry 0 is the top
-/// table, then come the modules, the nodes and the binds, each in file order. After `Fault::Memory` nothing is known.
+/// `Fault::Check` names the first of the checks 1 to 4 that fails, and the entry at which it does: entry
+/// 0 is the top table, then come the modules, the nodes and the binds, each in file order. After
+/// `Fault::Memory` nothing is known.
 pub fn read_design(alloc: Global, bytes: &[u8]) -> Result<Design, Fault>
     ensures ok { IfOk result (λ design. spec.stated_design bytes.now ≡ Some design) }
     ensures nodes { IfOk result (λ design. length design.nodes ≤ 256) }

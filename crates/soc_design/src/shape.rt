@@ -161,14 +161,16 @@ fn bind_has_shape(value: &Value) -> bool
 
 // Modules aren't served yet, so the first one is the first to fail.
 fn misshapen_module(modules: &[Value]) -> Option<u64>
-    ensures { result ≡ first (failing (λ place d. not (spec.module_has_shape d)) 0 1 (items_view modules.now)) }
+    ensures { result ≡ first (failing (λ place d. not (spec.module_has_shape d)) 0 1
+        (items_view modules.now)) }
 {
     if modules.is_empty() { None } else { Some(1) }
 }
 
 fn misshapen_node(nodes: &[Value], entry: u64) -> Option<u64>
     requires { entry + length nodes.now < 2 ^ 64 }
-    ensures { result ≡ first (failing (λ place d. not (spec.node_has_shape d)) 0 entry (items_view nodes.now)) }
+    ensures { result ≡ first (failing (λ place d. not (spec.node_has_shape d)) 0 entry
+        (items_view nodes.now)) }
 {
     for (place, node) in nodes.iter().enumerate() {
         if !node_has_shape(node) {
@@ -180,7 +182,8 @@ fn misshapen_node(nodes: &[Value], entry: u64) -> Option<u64>
 
 fn misshapen_bind(binds: &[Value], entry: u64) -> Option<u64>
     requires { entry + length binds.now < 2 ^ 64 }
-    ensures { result ≡ first (failing (λ place d. not (spec.bind_has_shape d)) 0 entry (items_view binds.now)) }
+    ensures { result ≡ first (failing (λ place d. not (spec.bind_has_shape d)) 0 entry
+        (items_view binds.now)) }
 {
     for (place, bind) in binds.iter().enumerate() {
         if !bind_has_shape(bind) {

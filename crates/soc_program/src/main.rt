@@ -9,7 +9,8 @@ use soc_report::Status;
 use std::env;
 use std::process::ExitCode;
 
-// The words of the run without the program's name; none where one of them isn't text, and `None` for want of memory.
+// The words of the run without the program's name, none where one of them isn't text; `None` for want of
+// memory.
 fn words_of(rt: &HostRuntime) -> Option<Vec<String>> {
     let mut words = Vec::new(rt.alloc());
     let Ok(all) = env::args(rt) else {

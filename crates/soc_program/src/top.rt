@@ -84,7 +84,8 @@ fn design_of(words: &[String]) -> Option<&str>
 
 fn run<F: Files, O: Out>(alloc: Global, words: &[String], files: &mut F, out: &mut O) -> Status
     ensures files { SameContent (F.seen files.old) (F.seen files.new) }
-    ensures answered { Answered (words_of words.now) (world (F.seen files.old) (O.seen out.old)) (world (F.seen files.new) (O.seen out.new)) result }
+    ensures answered { Answered (words_of words.now) (world (F.seen files.old) (O.seen out.old))
+        (world (F.seen files.new) (O.seen out.new)) result }
 {
     let Some(name) = design_of(words) else {
         return finish(Status::Usage, out);
@@ -102,8 +103,10 @@ fn run<F: Files, O: Out>(alloc: Global, words: &[String], files: &mut F, out: &m
 /// `words` doesn't hold the program's name. No file changes.
 pub fn soc<F: Files, O: Out>(alloc: Global, words: &[String], files: &mut F, out: &mut O) -> Status
     ensures files { SameContent (F.seen files.old) (F.seen files.new) }
-    ensures answered { Answered (words_of words.now) (world (F.seen files.old) (O.seen out.old)) (world (F.seen files.new) (O.seen out.new)) result }
-    ensures completed { Completed (words_of words.now) (world (F.seen files.old) (O.seen out.old)) (world (F.seen files.new) (O.seen out.new)) result }
+    ensures answered { Answered (words_of words.now) (world (F.seen files.old) (O.seen out.old))
+        (world (F.seen files.new) (O.seen out.new)) result }
+    ensures completed { Completed (words_of words.now) (world (F.seen files.old) (O.seen out.old))
+        (world (F.seen files.new) (O.seen out.new)) result }
 {
     run(alloc, words, files, out)
 }

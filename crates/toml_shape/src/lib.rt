@@ -1,5 +1,5 @@
-//! Typed reading of TOML trees: keys, texts, names, integers, pairs and arrays of tables, each equal to a definition
-//! on the tree's data; and names numbered in their order.
+//! Typed reading of TOML trees: keys, texts, names, integers, pairs and arrays of tables, each equal to a
+//! definition on the tree's data; and names numbered in their order.
 #![tactic(auto)]
 
 mod numbering;

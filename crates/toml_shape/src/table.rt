@@ -118,9 +118,11 @@ fn are_tables(items: &[Value]) -> bool
     true
 }
 
-/// The items of the array of tables under a key, none where the key is missing; `None` where another value stands there.
+/// The items of the array of tables under a key, none where the key is missing; `None` where another
+/// value stands there.
 pub fn tables_under<'a>(table: &'a Table, key: &str) -> Option<&'a [Value]>
-    ensures { option_map (λ items. items_view items.now) result ≡ spec.tables_under key.now (table_view table.now) }
+    ensures { option_map (λ items. items_view items.now) result ≡ spec.tables_under key.now
+        (table_view table.now) }
 {
     match under(table, key) {
         None => Some(&[]),
@@ -159,7 +161,8 @@ pub fn may_have_name(table: &Table, key: &str) -> bool
 
 /// Whether a key is missing or has one of these texts.
 pub fn may_have_text(table: &Table, key: &str, texts: &[&str]) -> bool
-    ensures { result ≡ spec.may_have (spec.is_one_of (map (λ t. t.now) texts.now)) (get_member key.now (table_view table.now)) }
+    ensures { result ≡ spec.may_have (spec.is_one_of (map (λ t. t.now) texts.now))
+        (get_member key.now (table_view table.now)) }
 {
     match under(table, key) {
         None => true,
