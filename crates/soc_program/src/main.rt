@@ -3,6 +3,9 @@
 
 mod top;
 
+#[cfg(test)]
+mod tests;
+
 use crate::top::soc;
 use dip_io::{RealFiles, RealOut};
 use soc_report::Status;
