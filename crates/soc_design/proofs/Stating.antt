@@ -1,9 +1,9 @@
 -- What the items of an array state, item by item.
-use Rattle.std.proofs.Common.{ℕ, ◌≡◌, ◌<◌, ◌≤◌, ◌+◌, List, [], ◌∷◌, ◌++◌, drop, length, get_or, Bool, true, false, ◌||◌, nat_le, Option, Some, None, is_none, refl, sym, ◌∙◌, ap, append_assoc, length-append, arith}
+use Rattle.std.proofs.Common.{ℕ, ◌≡◌, ◌<◌, ◌+◌, List, [], ◌∷◌, ◌++◌, drop, length, get_or, false, ◌||◌, nat_le, Option, Some, None, is_none, refl, sym, ◌∙◌, ap, append_assoc, length-append, arith}
 use Rattle.std.specs.Option.{option_map}
 use Rattle.std.proofs.lemmas.Bool.Decides.{nat_tests}
 use Rattle.toml.specs.declared.value.Value.{Value}
-use Rattle.toml.specs.Data.{Data, Items, item}
+use Rattle.toml.specs.Data.{Data}
 use Rattle.toml.specs.View.{view, items_view}
 use Rattle.toml.proofs.Views.{items_view-drop}
 use Rattle.soc_design.specs.Stated.{all_of, before}

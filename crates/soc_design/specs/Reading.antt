@@ -1,6 +1,6 @@
 -- A design file: the checks of its bytes in their order, and the design that it states.
 use Rattle.std.specs.Prelude.{ℕ, ◌+◌, List, [], ◌∷◌, ◌++◌, length, take, codes, Bool, ◌&&◌, ◌||◌, not, cond, nat_le, Option, Some, None, is_none, unwrap_or, if◌then◌else◌}
-use Rattle.std.specs.Option.{option_and_then, option_map}
+use Rattle.std.specs.Option.{option_and_then}
 use Rattle.std.specs.Str.{is_utf8}
 use Rattle.toml.specs.Parse.{parse_document}
 use Rattle.toml.specs.Data.{Data, Items, no_items, item, Members}

@@ -1,5 +1,4 @@
 use Rattle.std.proofs.Common.{◌∙◌, ap, sym, arith, length}
-use Rattle.toml.specs.View.{view}
 use Rattle.soc_design.specs.Stated as spec
 use Rattle.soc_design.specs.Reading.{node_is_beyond, most_nodes}
 use Rattle.soc_design.proofs.Failing.{passes}

@@ -1,4 +1,4 @@
-use Rattle.std.proofs.Common.{◌≡◌, ◌≤◌, ◌∙◌, ap, length, arith}
+use Rattle.std.proofs.Common.{◌≡◌, ◌∙◌, ap, length, arith}
 use Rattle.toml.specs.View.{table_view}
 use Rattle.soc_design.specs.Reading.{count, nodes_in}
 use Rattle.soc_design.proofs.Counting.{count-names_at}

@@ -1,11 +1,10 @@
-use Rattle.std.proofs.Common.{ℕ, ◌≡◌, ◌≤◌, List, length, Option, Some, None, Bool, true, false, ◌&&◌, nat_le, if◌then◌else◌, sym, ◌∙◌, ap, refl, arith}
-use Rattle.std.specs.Str.{is_utf8, IsUtf8}
+use Rattle.std.proofs.Common.{ℕ, ◌≡◌, ◌≤◌, Option, None, Bool, true, false, ◌&&◌, nat_le, if◌then◌else◌, sym, ◌∙◌, ap, refl, arith}
 use Rattle.std.proofs.lemmas.Bool.{false_from_ne_true}
 use Rattle.std.proofs.lemmas.Bool.Decides.{nat_tests}
 use Rattle.std.proofs.lemmas.Str.{IsUtf8-from_is_utf8, is_utf8-from_IsUtf8}
 use Rattle.toml.specs.Data.{Members}
 use Rattle.toml.specs.Parse.{parse_document}
-use Rattle.soc_design.specs.Reading.{tree_of, most_bytes}
+use Rattle.soc_design.specs.Reading.{most_bytes}
 use Rattle.soc_design.proofs.read.tree_of.Goals as goal
 
 no_text : (short : Bool) (text : Bool) (tree : Option Members) → text ≡ false → None ≡ (if short && text then tree else None)
