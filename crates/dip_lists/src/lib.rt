@@ -3,12 +3,14 @@
 
 mod duplicate;
 mod few;
+mod first;
 mod items;
 mod memory;
 mod same;
 
 pub use duplicate::{Duplicate, duplicate_items};
 pub use few::Few;
+pub use first::first_failing_law;
 pub use items::Items;
 pub use memory::Memory;
 pub use same::{Same, same_items};
