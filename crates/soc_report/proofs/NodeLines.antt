@@ -18,7 +18,7 @@ at_end : (nodes : List NodeEntry) (number : ℕ) (source : NodeEntry) (edges : L
 at_end nodes number source edges ups n (inl h) = rw (drop_all n edges h) refl
 at_end nodes number source edges ups n (inr h) = rw (drop_all n ups h) (no_ups nodes number source (drop n edges))
 
--- where both lists have ended, the text is what was to be made
+-- where one of the lists has ended, the text is what was to be made
 pub all_made : (text made : List ℕ) (nodes : List NodeEntry) (number : ℕ) (source : NodeEntry) (edges : List Edge) (ups : List UpPort) (n : ℕ)
     → min (length edges) (length ups) ≤ n → text ++ node_lines nodes number source (drop n edges) (drop n ups) ≡ made → text ≡ made
 all_made text made nodes number source edges ups n h e =
