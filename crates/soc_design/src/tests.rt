@@ -100,7 +100,12 @@ const CHANGES: [(&str, &str, u16, u64); 17] = [
     ("name = \"one\"\n", "", 2, 0),
     ("name = \"core\"\n", "", 2, 1),
     ("[[node]]", "[[module]]\nname = \"two\"\n[[node]]", 2, 1),
-    ("[[bind]]", "[[node]]\nname = \"third\"\nkind = \"buffer\"\n[[bind]]", 2, 3),
+    (
+        "[[bind]]",
+        "[[node]]\nname = \"third\"\nkind = \"buffer\"\n[[bind]]",
+        2,
+        3,
+    ),
     ("to = \"ram\"", "to = \"ram\"\nkind = \":=*\"", 2, 3),
     ("version = 1", "version = 2", 3, 0),
     ("ids = 1", "ids = 0", 3, 1),
@@ -113,7 +118,12 @@ const CHANGES: [(&str, &str, u16, u64); 17] = [
     ("to = \"ram\"", "to = \"rom\"", 4, 3),
     ("from = \"core\"", "from = \"one\"", 4, 3),
     // A later entry fails an earlier check.
-    ("1\nname = \"one\"\n[[node]]\nname = \"core\"", "2\nname = \"one\"\n[[node]]", 2, 1),
+    (
+        "1\nname = \"one\"\n[[node]]\nname = \"core\"",
+        "2\nname = \"one\"\n[[node]]",
+        2,
+        1,
+    ),
     ("ids = 1", "ids = 0\nmodule = 0", 2, 1),
 ];
 

@@ -32,8 +32,15 @@ inner = { a = 1, b = \"x\" }
 [[tables]]
 ";
 
-// A key, whether its value is a name, its number from 0 to 7, its two integers, and the length of its array of tables.
-type Row = (&'static str, bool, Option<u64>, Option<(i64, i64)>, Option<usize>);
+// A key, whether its value is a name, its number from 0 to 7, its two integers, and the length of its array
+// of tables.
+type Row = (
+    &'static str,
+    bool,
+    Option<u64>,
+    Option<(i64, i64)>,
+    Option<usize>,
+);
 
 const ROWS: [Row; 10] = [
     ("fits", true, None, None, None),
