@@ -95,7 +95,7 @@ fn end_of(alloc: Global, bytes: &[u8]) -> Result<(), Fault> {
     Ok(())
 }
 
-// What stands first in the design above, what stands in its place, and the check and the entry that then fail.
+// What stands first in the design above, what takes its place, and the check and the entry that then fail.
 const CHANGES: [(&str, &str, u16, u64); 17] = [
     ("name = \"one\"\n", "", 2, 0),
     ("name = \"core\"\n", "", 2, 1),
