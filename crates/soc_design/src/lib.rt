@@ -8,3 +8,6 @@ mod shape;
 mod tables;
 
 pub use read::read_design;
+
+#[cfg(test)]
+mod tests;

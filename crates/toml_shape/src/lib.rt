@@ -12,3 +12,6 @@ pub use table::{
     name_under, number_under, pair_under, table_under, tables_under, text_under, under,
 };
 pub use value::{items, number_within, pair};
+
+#[cfg(test)]
+mod tests;
