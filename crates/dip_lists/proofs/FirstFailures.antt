@@ -41,7 +41,7 @@ not_both a b before after =
     ⊎_elim
     (λ lower. ⊎_elim (λ higher. absurd (omega arith)) (λ same. let e = same.0 in absurd (omega arith)) after)
     (λ equal. let e = equal.0 in let up = equal.1 in
-      ⊎_elim (λ higher. absurd (omega arith)) (λ same. let down = same.1 in absurd (omega arith)) after)
+    ⊎_elim (λ higher. absurd (omega arith)) (λ same. let down = same.1 in absurd (omega arith)) after)
     before
 
 passes : (number : ℕ) (failing : List ℕ) (rest : Option Failure) → option_or (option_map (failure_of number) (first failing)) rest ≡ None → (failing ≡ []) × (rest ≡ None)
@@ -72,10 +72,10 @@ first_behind check checks failure none h =
     record {
       fails = fails_later check checks failure h.fails;
       least = λ other fails before.
-        ⊎_elim
-        (λ here. nowhere other.subject (subst (λ l. Contains l other.subject) none here.1))
-        (λ there. h.least other there before)
-        (fails_cases check checks other fails);
+          ⊎_elim
+          (λ here. nowhere other.subject (subst (λ l. Contains l other.subject) none here.1))
+          (λ there. h.least other there before)
+          (fails_cases check checks other fails);
     }
 
 fails_here : (check : Check) (checks : List Check) (failure : Failure) → FoundHere check.number check.failing failure → Fails (check ∷ checks) failure
@@ -95,8 +95,8 @@ least_of_check check failure other rising here number subject before =
     ⊎_elim
     (λ e. ⊎_elim (λ lower. absurd (omega arith)) (λ below. let down = below.1 in absurd (omega arith)) before)
     (λ later.
-      let above = All-contains (λ b. failure.subject < b) here.0 other.subject (behind (λ a b. a < b) failure.subject here.0 up) later in
-      not_both failure other (inr (omega arith, above)) before)
+    let above = All-contains (λ b. failure.subject < b) here.0 other.subject (behind (λ a b. a < b) failure.subject here.0 up) later in
+    not_both failure other (inr (omega arith, above)) before)
     (within_cases failure.subject other.subject here.0 (subst (λ l. Contains l other.subject) here.1 subject))
 
 -- a failure of a later check
@@ -110,19 +110,19 @@ least_of_others check later failure other precedes number subject other_number o
 first_here : (check : Check) (checks : List Check) (failure : Failure) → AreInOrder (check ∷ checks) → FoundHere check.number check.failing failure → IsFirstFailure (check ∷ checks) failure
 first_here check checks failure o here =
     let at_head : Contains check.failing failure.subject =
-      subst (λ l. Contains l failure.subject) (sym here.1) (Contains-append_left (failure.subject ∷ []) here.0 failure.subject (Contains-push [] failure.subject)) in
+    subst (λ l. Contains l failure.subject) (sym here.1) (Contains-append_left (failure.subject ∷ []) here.0 failure.subject (Contains-push [] failure.subject)) in
     record {
       fails = fails_here check checks failure here;
       least = λ other fails before.
-        ⊎_elim
-        (λ same. least_of_check check failure other (All-head HasRisingSubjects check checks o.rising) here same.0 same.1 before)
-        (λ there.
+          ⊎_elim
+          (λ same. least_of_check check failure other (All-head HasRisingSubjects check checks o.rising) here same.0 same.1 before)
+          (λ there.
           not_both failure other
           (least_of_others check there.check failure other
-            (All-contains (Precedes check) checks there.check (behind Precedes check checks o.ordered) there.listed)
-            here.2 at_head there.number there.subject)
+          (All-contains (Precedes check) checks there.check (behind Precedes check checks o.ordered) there.listed)
+          here.2 at_head there.number there.subject)
           before)
-        (fails_cases check checks other fails);
+          (fails_cases check checks other fails);
     }
 
 pub first_fails : (checks : List Check) (failure : Failure) → AreInOrder checks → first_failing checks ≡ Some failure → IsFirstFailure checks failure
