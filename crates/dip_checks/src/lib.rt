@@ -7,6 +7,8 @@ mod check;
 mod edges;
 mod ports;
 mod sets;
+#[cfg(test)]
+mod tests;
 
 pub use accepted::{Accepted, Solution};
 pub use check::check_design;
