@@ -1,10 +1,9 @@
 //! The program `soc`: the top call over real files and standard output.
 #![tactic(auto)]
 
-mod top;
-
 #[cfg(test)]
 mod tests;
+mod top;
 
 use crate::top::soc;
 use dip_io::{RealFiles, RealOut};

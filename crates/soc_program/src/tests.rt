@@ -44,7 +44,8 @@ fn map(alloc: Global, bytes: &[u8], out: &mut MemOut) -> Result<Status, Fail> {
 }
 
 fn design(alloc: Global, ids: &str, addresses: &str, binds: &str) -> Result<String, Fail> {
-    Ok(format!(in alloc; "version = 1
+    Ok(format!(in alloc;
+        "version = 1
 name = \"one\"
 [[node]]
 name = \"core\"
@@ -57,7 +58,8 @@ kind = \"sink\"
 beat = 8
 addresses = {addresses}
 supports = {{ get = [1, 8], put_full = [1, 8] }}
-{binds}")?)
+{binds}"
+    )?)
 }
 
 #[test]
@@ -67,12 +69,32 @@ fn names_the_first_failing_check(rt: HostRuntime) -> Result<(), Fail> {
     let bind = "[[bind]]\nto = \"ram\"\nfrom = \"core\"\n";
     for (ids, addresses, binds, printed) in [
         ("0", ram, bind, "refused 3 1\n"),
-        ("1", ram, "[[bind]]\nto = \"rom\"\nfrom = \"core\"\n", "refused 4 3\n"),
-        ("1", ram, "[[bind]]\nto = \"core\"\nfrom = \"ram\"\n", "refused 6 0\n"),
+        (
+            "1",
+            ram,
+            "[[bind]]\nto = \"rom\"\nfrom = \"core\"\n",
+            "refused 4 3\n",
+        ),
+        (
+            "1",
+            ram,
+            "[[bind]]\nto = \"core\"\nfrom = \"ram\"\n",
+            "refused 6 0\n",
+        ),
         ("1", ram, "", "refused 9 0\n"),
-        ("1", "[[[0x1000, 0xfff], [0x1800, 0x7ff]]]", bind, "refused 14 0\n"),
+        (
+            "1",
+            "[[[0x1000, 0xfff], [0x1800, 0x7ff]]]",
+            bind,
+            "refused 14 0\n",
+        ),
         ("1", "[[[0x80000000, 0x3]]]", bind, "refused 15 0\n"),
-        ("1", ram, "[[node]]\nname = \"b\"\nkind = \"buffer\"\n", "refused 2 3\n"),
+        (
+            "1",
+            ram,
+            "[[node]]\nname = \"b\"\nkind = \"buffer\"\n",
+            "refused 2 3\n",
+        ),
         ("1", ram, bind, SMALLEST_MAP),
     ] {
         let text = design(alloc, ids, addresses, binds)?;
