@@ -1,0 +1,213 @@
+ghost use Rattle.std.specs.Prelude.{◌≡◌, ℕ, ◌+◌, ◌-◌, ◌*◌, ◌/◌, ◌%◌, ◌^◌, ◌<◌, ◌≤◌, List, [], ◌∷◌, ◌++◌, length, IfOk, if◌then◌else◌, ◌==◌, nat_lt, bit_and, bit_or, bit_xor, codes, set, get_or, Contains};
+ghost use Rattle.net_cells.specs.Rules.{IsCell, IsNamed, IsWidth};
+ghost use Rattle.net_cells.specs.Values.{op_value};
+ghost use Rattle.net_build.specs.Built.{Built, items, wire_widths, names, undriven, IsWire, IsBit, IsRegister};
+ghost use Rattle.net_build.specs.Sound.{Follows, Makes};
+ghost use Rattle.net_build.specs.Values.{Solves, Ticks, Means, Takes, Later, Adds, Opens, Drives};
+
+use crate::types::{Item, Kind, Made, Wire};
+use dip_lists::{Items, Memory};
+use dip_sets::Name;
+use net_cells::{CellOp, OutPort, OutPorts};
+use std::alloc::Global;
+use std::marker::Model;
+
+/// A netlist that is being made.
+#[derive(Drop)]
+pub struct Builder {
+    alloc: Global,
+    name: Name,
+    made: Vec<Made>,
+    outputs: OutPorts,
+}
+
+impl Model for Builder {
+    ghost use Rattle.net_build.specs.Built.{Built};
+    ghost use Rattle.net_build.specs.Sound.{IsSound};
+
+    ghost Value = { Built };
+
+    ghost view = { λ b. record { name = b.name; made = b.made.items; outputs = b.outputs } };
+
+    ghost invariant = { λ b. IsSound (record { name = b.name; made = b.made.items; outputs = b.outputs }) };
+}
+
+impl Builder {
+    /// Makes one wire.
+    fn make(&mut self, width: u32, kind: Kind) -> Result<Wire, Memory>
+        requires width { IsWidth width }
+        requires rule { Follows self.old width kind }
+        ensures later { IfOk result (λ _. Later self.old self.new) }
+        ensures made { IfOk result (λ _. Makes self.old self.new (record { width = width; kind = kind })) }
+        ensures wire { IfOk result (λ w. w ≡ record { number = length self.old.made; width = width }) }
+    {
+        let number = self.made.len() as u64;
+        self.made.push(Made {
+            item: Item { width, kind },
+            next: None,
+        })?;
+        Ok(Wire { number, width })
+    }
+
+    /// Makes a cell.
+    #[tactic(auto, using(crate::proofs::Wires::gate_adds, crate::proofs::Wires::made_wire, crate::proofs::Wires::gate_means))]
+    fn gate(&mut self, width: u32, op: CellOp) -> Result<Wire, Memory>
+        requires width { IsWidth width }
+        requires rule { IsCell (wire_widths self.old) width op }
+        ensures adds { IfOk result (λ _. Adds self.old self.new) }
+        ensures wire { IfOk result (λ w. IsWire self.new w × (w.width ≡ width)) }
+        ensures value { IfOk result (λ w. Means self.new w (λ v. op_value (wire_widths self.new) width op v)) }
+    {
+        let wire = self.make(width, Kind::Gate(op))?;
+        Ok(wire)
+    }
+
+    /// A wire that is always this value.
+    pub fn constant(&mut self, width: u32, value: u64) -> Result<Wire, Memory>
+        requires width { IsWidth width }
+        requires value { value < 2 ^ width }
+        ensures adds { IfOk result (λ _. Adds self.old self.new) }
+        ensures wire { IfOk result (λ w. IsWire self.new w × (w.width ≡ width)) }
+        ensures value { IfOk result (λ w. Means self.new w (λ v. value)) }
+    {
+        self.gate(width, CellOp::Const(value))
+    }
+
+    /// Each bit inverted.
+    pub fn not(&mut self, a: Wire) -> Result<Wire, Memory>
+        requires { IsWire self.old a }
+        ensures adds { IfOk result (λ _. Adds self.old self.new) }
+        ensures wire { IfOk result (λ w. IsWire self.new w × (w.width ≡ a.width)) }
+        ensures value { IfOk result (λ w. Means self.new w (λ v. 2 ^ a.width - 1 - v a.number)) }
+    {
+        self.gate(a.width, CellOp::Not(a.number))
+    }
+
+    /// Bit by bit, 1 where both are.
+    pub fn and(&mut self, a: Wire, b: Wire) -> Result<Wire, Memory>
+        requires wires { IsWire self.old a × IsWire self.old b }
+        requires width { b.width ≡ a.width }
+        ensures adds { IfOk result (λ _. Adds self.old self.new) }
+        ensures wire { IfOk result (λ w. IsWire self.new w × (w.width ≡ a.width)) }
+        ensures value { IfOk result (λ w. Means self.new w (λ v. bit_and (v a.number) (v b.number))) }
+    {
+        self.gate(a.width, CellOp::And(a.number, b.number))
+    }
+
+    /// Bit by bit, 1 where one is.
+    pub fn or(&mut self, a: Wire, b: Wire) -> Result<Wire, Memory>
+        requires wires { IsWire self.old a × IsWire self.old b }
+        requires width { b.width ≡ a.width }
+        ensures adds { IfOk result (λ _. Adds self.old self.new) }
+        ensures wire { IfOk result (λ w. IsWire self.new w × (w.width ≡ a.width)) }
+        ensures value { IfOk result (λ w. Means self.new w (λ v. bit_or (v a.number) (v b.number))) }
+    {
+        self.gate(a.width, CellOp::Or(a.number, b.number))
+    }
+
+    /// Bit by bit, 1 where they differ.
+    pub fn xor(&mut self, a: Wire, b: Wire) -> Result<Wire, Memory>
+        requires wires { IsWire self.old a × IsWire self.old b }
+        requires width { b.width ≡ a.width }
+        ensures adds { IfOk result (λ _. Adds self.old self.new) }
+        ensures wire { IfOk result (λ w. IsWire self.new w × (w.width ≡ a.width)) }
+        ensures value { IfOk result (λ w. Means self.new w (λ v. bit_xor (v a.number) (v b.number))) }
+    {
+        self.gate(a.width, CellOp::Xor(a.number, b.number))
+    }
+
+    /// The sum, modulo 2 to the power of the width.
+    pub fn add(&mut self, a: Wire, b: Wire) -> Result<Wire, Memory>
+        requires wires { IsWire self.old a × IsWire self.old b }
+        requires width { b.width ≡ a.width }
+        ensures adds { IfOk result (λ _. Adds self.old self.new) }
+        ensures wire { IfOk result (λ w. IsWire self.new w × (w.width ≡ a.width)) }
+        ensures value { IfOk result (λ w. Means self.new w (λ v. (v a.number + v b.number) % 2 ^ a.width)) }
+    {
+        self.gate(a.width, CellOp::Add(a.number, b.number))
+    }
+
+    /// The difference, modulo 2 to the power of the width.
+    pub fn sub(&mut self, a: Wire, b: Wire) -> Result<Wire, Memory>
+        requires wires { IsWire self.old a × IsWire self.old b }
+        requires width { b.width ≡ a.width }
+        ensures adds { IfOk result (λ _. Adds self.old self.new) }
+        ensures wire { IfOk result (λ w. IsWire self.new w × (w.width ≡ a.width)) }
+        ensures value { IfOk result (λ w. Means self.new w (λ v. (v a.number + 2 ^ a.width - v b.number) % 2 ^ a.width)) }
+    {
+        self.gate(a.width, CellOp::Sub(a.number, b.number))
+    }
+
+    /// 1 where both are equal, else 0.
+    #[tactic(auto, using(crate::proofs::Wires::one_width))]
+    pub fn eq(&mut self, a: Wire, b: Wire) -> Result<Wire, Memory>
+        requires wires { IsWire self.old a × IsWire self.old b }
+        requires width { b.width ≡ a.width }
+        ensures adds { IfOk result (λ _. Adds self.old self.new) }
+        ensures wire { IfOk result (λ w. IsWire self.new w × (w.width ≡ 1)) }
+        ensures value { IfOk result (λ w. Means self.new w (λ v. if v a.number == v b.number then 1 else 0)) }
+    {
+        self.gate(1, CellOp::Eq(a.number, b.number))
+    }
+
+    /// 1 where the first is below the second, both unsigned, else 0.
+    #[tactic(auto, using(crate::proofs::Wires::one_width))]
+    pub fn less(&mut self, a: Wire, b: Wire) -> Result<Wire, Memory>
+        requires wires { IsWire self.old a × IsWire self.old b }
+        requires width { b.width ≡ a.width }
+        ensures adds { IfOk result (λ _. Adds self.old self.new) }
+        ensures wire { IfOk result (λ w. IsWire self.new w × (w.width ≡ 1)) }
+        ensures value { IfOk result (λ w. Means self.new w (λ v. if nat_lt (v a.number) (v b.number) then 1 else 0)) }
+    {
+        self.gate(1, CellOp::Less(a.number, b.number))
+    }
+
+    /// `yes` where `pick` is 1, else `no`.
+    #[tactic(auto, using(crate::proofs::Wires::bit_width))]
+    pub fn mux(&mut self, pick: Wire, yes: Wire, no: Wire) -> Result<Wire, Memory>
+        requires pick { IsBit self.old pick }
+        requires wires { IsWire self.old yes × IsWire self.old no }
+        requires width { no.width ≡ yes.width }
+        ensures adds { IfOk result (λ _. Adds self.old self.new) }
+        ensures wire { IfOk result (λ w. IsWire self.new w × (w.width ≡ yes.width)) }
+        ensures value { IfOk result (λ w. Means self.new w (λ v. if v pick.number == 1 then v yes.number else v no.number)) }
+    {
+        self.gate(yes.width, CellOp::Mux(pick.number, yes.number, no.number))
+    }
+
+    /// `high` in the high bits and `low` in the low ones.
+    #[tactic(auto, using(crate::proofs::Wires::joined, crate::proofs::Wires::joined_means))]
+    pub fn concat(&mut self, high: Wire, low: Wire) -> Result<Wire, Memory>
+        requires wires { IsWire self.old high × IsWire self.old low }
+        requires width { IsWidth (high.width + low.width) }
+        ensures adds { IfOk result (λ _. Adds self.old self.new) }
+        ensures wire { IfOk result (λ w. IsWire self.new w × (w.width ≡ high.width + low.width)) }
+        ensures value { IfOk result (λ w. Means self.new w (λ v. v high.number * 2 ^ low.width + v low.number)) }
+    {
+        let wire = self.gate(
+            high.width + low.width,
+            CellOp::Concat(high.number, low.number),
+        )?;
+        Ok(wire)
+    }
+
+    /// The bits of `a` from `lo` to `hi`, both counted from 0 and both included.
+    #[tactic(auto, using(crate::proofs::Wires::part))]
+    pub fn select(&mut self, a: Wire, hi: u32, lo: u32) -> Result<Wire, Memory>
+        requires wire { IsWire self.old a }
+        requires order { lo ≤ hi }
+        requires within { hi < a.width }
+        ensures adds { IfOk result (λ _. Adds self.old self.new) }
+        ensures wire { IfOk result (λ w. IsWire self.new w × (w.width ≡ hi - lo + 1)) }
+        ensures value { IfOk result (λ w. Means self.new w (λ v. v a.number / 2 ^ lo % 2 ^ (hi - lo + 1))) }
+    {
+        self.gate(
+            hi - lo + 1,
+            CellOp::Select {
+                net: a.number,
+                hi,
+                lo,
+            },
+        )
+    }
+}

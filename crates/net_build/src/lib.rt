@@ -1,0 +1,8 @@
+//! The builder of netlists, each of whose wires has its operator's value.
+#![tactic(auto)]
+
+mod builder;
+mod types;
+
+pub use builder::Builder;
+pub use types::{Item, Kind, Made, Wire, Wires};
