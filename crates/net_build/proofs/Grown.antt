@@ -18,7 +18,7 @@ use Rattle.net_build.specs.declared.types.Made.{Made}
 use Rattle.net_build.specs.Built.{Built, items, widths_of, wire_widths, inputs, names, port_of}
 use Rattle.net_build.specs.Values.{Solves, Ticks, AtStart, Later}
 use Rattle.net_build.specs.Sound.{IsSound, Differ, Follows, Makes}
-use Rattle.net_build.proofs.Lists.{get_last, get_more, get_either, all_more, all_weaker, differ_insert}
+use Rattle.net_build.proofs.Lists.{get_last, get_more, get_either, all_more, all_weaker, all_listed, differ_insert}
 use Rattle.net_build.proofs.Cells.{net_more, has_more, cell_more, cell_whole, value_more, fits_front}
 
 pub items_made : (old new : Built) (i : Item) → Makes old new i → items new ≡ items old ++ i ∷ []
@@ -83,7 +83,7 @@ names_differ b width (Input name) f d =
     let p : Port = record { name = name; width = width } in
     let outs = map (λ (o : OutPort). o.name) b.outputs in
     let e : called (inputs b ++ p ∷ []) ++ outs ≡ called (inputs b) ++ (name ∷ outs) = ap (λ (x : List (List ℕ)). x ++ outs) (map-append (λ (p : Port). p.name) (inputs b) (p ∷ [])) ∙ append_assoc (called (inputs b)) (name ∷ []) outs in
-    subst Differ (sym e) (differ_insert (called (inputs b)) outs name d f.unused)
+    subst Differ (sym e) (differ_insert (called (inputs b)) outs name d (all_listed (λ y. y ≢ name) (names b) f.unused))
 names_differ b width Register f d = rw (append-nil (inputs b)) d
 names_differ b width (Gate op) f d = rw (append-nil (inputs b)) d
 

@@ -2,3 +2,5 @@ pub mod Lists
 pub mod Cells
 pub mod Grown
 pub mod Wires
+pub mod Shown
+pub mod Steps

@@ -1,6 +1,6 @@
 -- Lists that grow at their end.
 use Rattle.std.proofs.Common.{◌≡◌, ◌≢◌, ℕ, zero, suc, ◌+◌, ◌<◌, ◌≤◌, ◌⊎◌, inl, inr, List, [], ◌∷◌, ◌++◌, length, take, get_or, Option, Some, None, refl, sym, ap, ◌∙◌, subst, arith}
-use Rattle.std.specs.Prelude.{slice_get}
+use Rattle.std.specs.Prelude.{slice_get, All}
 use Rattle.std.specs.List.{AllByRecursion}
 use Rattle.net_build.specs.Sound.{Differ}
 
@@ -39,3 +39,11 @@ all_insert P (y ∷ xs) ys x h p = (h.0, all_insert P xs ys x h.1 p)
 pub differ_insert : (xs ys : List (List ℕ)) (x : List ℕ) → Differ (xs ++ ys) → AllByRecursion (λ y. y ≢ x) (xs ++ ys) → Differ (xs ++ x ∷ ys)
 differ_insert [] ys x d h = (all_weaker (λ y. y ≢ x) (λ y. x ≢ y) ys (λ y f e. f (sym e)) h, d)
 differ_insert (y ∷ xs) ys x d h = (all_insert (λ z. y ≢ z) xs ys x d.0 h.0, differ_insert xs ys x d.1 h.1)
+
+pub all_listed : {A : Type 0} (P : A → Type 0) (xs : List A) → All P xs → AllByRecursion P xs
+all_listed P [] h = search
+all_listed P (x ∷ xs) h = (h 0 x (omega arith), all_listed P xs (λ k d b. h (suc k) d (omega arith)))
+
+pub differ_last : (xs : List (List ℕ)) (x : List ℕ) → Differ xs → AllByRecursion (λ y. y ≢ x) xs → Differ (xs ++ x ∷ [])
+differ_last [] x d h = (search, search)
+differ_last (y ∷ xs) x d h = (all_more (λ z. y ≢ z) xs x d.0 h.0, differ_last xs x d.1 h.1)

@@ -14,7 +14,7 @@ use Rattle.net_build.specs.declared.types.Item.{Item}
 use Rattle.net_build.specs.declared.types.Made.{Made}
 use Rattle.net_build.specs.declared.types.Wire.{Wire}
 use Rattle.net_build.specs.Built.{Built, items, widths_of, wire_widths, inputs, undriven, is_undriven, port_of, IsWire, IsBit, IsRegister}
-use Rattle.net_build.specs.Values.{Solves, Means, Later, Adds, Opens}
+use Rattle.net_build.specs.Values.{Solves, Means, Later, Adds, AddsInput, Opens}
 use Rattle.net_build.specs.Sound.{Makes}
 use Rattle.net_build.proofs.Lists.{get_last}
 use Rattle.net_build.proofs.Grown.{items_made, widths_made, inputs_made}
@@ -68,3 +68,26 @@ joined_means old new x y w h a m = record { at = λ v s. m.at v s ∙ ap (λ n. 
 
 pub part : (b : Built) (x : Wire) (hi lo : ℕ) → IsWire b x → lo ≤ hi → hi < x.width → IsCell (wire_widths b) (hi - lo + 1) (Select x.number hi lo)
 part b x hi lo h o k = (h.has.0, subst (λ n. hi < n) (sym h.has.1) k, o, refl)
+
+pub input_adds : (old new : Built) (name : List ℕ) (width : ℕ) → Later old new → Makes old new (record { width = width; kind = Input name }) → AddsInput old new (record { name = name; width = width })
+input_adds old new name width l m = record {
+  later = l;
+  inputs = inputs_made old new (record { width = width; kind = Input name }) m;
+  outputs = m.outputs;
+  undriven = ap (places is_undriven 0) m.made ∙ places_more is_undriven 0 old.made (record { item = record { width = width; kind = Input name }; next = None }) ∙ append-nil (undriven old);
+}
+
+pub register_opens : (old new : Built) (width : ℕ) (w : Wire) → Later old new → Makes old new (record { width = width; kind = Register }) → w ≡ record { number = length old.made; width = width } → Opens old new (w.number ∷ [])
+register_opens old new width w l m e = rw e (record {
+  later = l;
+  inputs = same_inputs old new width Register m refl;
+  outputs = m.outputs;
+  undriven = ap (places is_undriven 0) m.made ∙ places_more is_undriven 0 old.made (record { item = record { width = width; kind = Register }; next = None }) ∙ ap (λ n. undriven old ++ n ∷ []) (omega arith);
+})
+
+pub made_register : (old new : Built) (width : ℕ) (w : Wire) → Makes old new (record { width = width; kind = Register }) → w ≡ record { number = length old.made; width = width } → IsRegister new w
+made_register old new width w m e =
+    let i : Item = record { width = width; kind = Register } in
+    let l : length (items old) ≡ length old.made = length-map old.made (λ (m : Made). m.item) in
+    let g : slice_get (items new) (length old.made) ≡ Some i = rw (items_made old new i m) (ap (slice_get (items old ++ i ∷ [])) (sym l) ∙ get_last (items old) i) in
+    rw e (record { at = g })

@@ -1,10 +1,10 @@
 -- A builder, seen from outside.
-use Rattle.std.specs.Prelude.{◌≡◌, ℕ, ◌<◌, Bool, true, false, ◌&&◌, is_none, List, ◌++◌, map, Option, Some, None, slice_get}
+use Rattle.std.specs.Prelude.{◌≡◌, ◌≢◌, ℕ, Bool, true, false, ◌&&◌, is_none, List, [], ◌∷◌, ◌++◌, map, All, codes, Option, Some, None, slice_get}
 use Rattle.std.specs.List.{filter_map}
 use Rattle.dip_lists.specs.First.{places}
 use Rattle.net_cells.specs.declared.netlist.Port.{Port}
 use Rattle.net_cells.specs.declared.netlist.OutPort.{OutPort}
-use Rattle.net_cells.specs.Rules.{HasWidth, IsWidth}
+use Rattle.net_cells.specs.Rules.{HasWidth, IsNamed, IsWidth}
 use Rattle.net_build.specs.declared.types.Kind.{Kind}
 use Rattle.net_build.specs.declared.types.Kind.TheVariants.{Input, Register, Gate}
 use Rattle.net_build.specs.declared.types.Item.{Item}
@@ -70,3 +70,16 @@ pub record IsBit (b : Built) (w : Wire) : Type 0 where
 -- a register of the builder
 pub record IsRegister (b : Built) (w : Wire) : Type 0 where
   pub at : slice_get (items b) w.number ≡ Some (record { width = w.width; kind = Register })
+
+-- a name that the builder may give to a further port
+pub record IsNewName (b : Built) (name : List ℕ) : Type 0 where
+  pub named : IsNamed (codes "p_") name
+  pub unused : All (λ x. x ≢ name) (names b)
+
+-- a builder as it begins: with the input `reset` alone
+abbrev pub begun : List ℕ → Built
+begun name = record {
+  name = name;
+  made = record { item = record { width = 1; kind = Input (codes "reset") }; next = None } ∷ [];
+  outputs = [];
+}

@@ -9,8 +9,8 @@ use Rattle.net_build.specs.declared.types.Kind.{Kind}
 use Rattle.net_build.specs.declared.types.Kind.TheVariants.{Input, Register, Gate}
 use Rattle.net_build.specs.declared.types.Item.{Item}
 use Rattle.net_build.specs.declared.types.Made.{Made}
-use Rattle.net_build.specs.Built.{Built, items, inputs, names, wire_widths}
-use Rattle.net_build.specs.Values.{Solves}
+use Rattle.net_build.specs.Built.{Built, items, inputs, names, wire_widths, IsNewName}
+use Rattle.net_build.specs.Values.{Solves, Ticks}
 
 -- all differ
 abbrev pub Differ : List (List ℕ) → Type 0
@@ -28,11 +28,6 @@ pub record IsSound (b : Built) : Type 0 where
   pub shown : AllByRecursion (λ (o : OutPort). IsNamed (codes "p_") o.name × IsNet (wire_widths b) o.net) b.outputs
   pub distinct : Differ (names b)
 
--- A name that the builder may give to a further port.
-pub record IsNewName (b : Built) (name : List ℕ) : Type 0 where
-  pub named : IsNamed (codes "p_") name
-  pub unused : AllByRecursion (λ x. x ≢ name) (names b)
-
 -- What a further wire of so many bits has to meet.
 abbrev pub Follows : Built → ℕ → Kind → Type 0
 Follows b width (Input name) = IsNewName b name
@@ -44,3 +39,11 @@ pub record Makes (old new : Built) (item : Item) : Type 0 where
   pub name : new.name ≡ old.name
   pub made : new.made ≡ old.made ++ record { item = item; next = None } ∷ []
   pub outputs : new.outputs ≡ old.outputs
+
+-- a wire that is 0 where the reset is 1
+pub record IsLowInReset (b : Built) (wire : ℕ) : Type 0 where
+  pub low : (v : ℕ → ℕ) → Solves b v → v 0 ≡ 1 → v wire ≡ 0
+
+-- a wire is put before a register
+pub record HasNext (b : Built) (register wire : ℕ) : Type 0 where
+  pub next : (v u : ℕ → ℕ) → Ticks b v u → u register ≡ v wire

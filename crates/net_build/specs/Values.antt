@@ -1,6 +1,8 @@
 -- What the wires of a builder may hold, and what a later builder keeps.
 use Rattle.std.specs.Prelude.{◌≡◌, ℕ, ◌^◌, ◌<◌, Bool, false, ◌==◌, not, List, ◌∷◌, [], ◌++◌, length, take, filter, Option, Some, slice_get, if◌then◌else◌}
 use Rattle.net_cells.specs.declared.netlist.CellOp.{CellOp}
+use Rattle.net_cells.specs.declared.netlist.Port.{Port}
+use Rattle.net_cells.specs.declared.netlist.OutPort.{OutPort}
 use Rattle.net_cells.specs.Rules.{HasWidth}
 use Rattle.net_cells.specs.Values.{FitsAll, op_value}
 use Rattle.net_build.specs.declared.types.Kind.TheVariants.{Register, Gate}
@@ -73,3 +75,17 @@ pub record Drives (old new : Built) (register : ℕ) : Type 0 where
   pub inputs : inputs new ≡ inputs old
   pub outputs : new.outputs ≡ old.outputs
   pub undriven : undriven new ≡ filter (λ n. not (n == register)) (undriven old)
+
+-- A later builder with one more input, and nothing else.
+pub record AddsInput (old new : Built) (port : Port) : Type 0 where
+  pub later : Later old new
+  pub inputs : inputs new ≡ inputs old ++ port ∷ []
+  pub outputs : new.outputs ≡ old.outputs
+  pub undriven : undriven new ≡ undriven old
+
+-- A later builder with one more output, and nothing else.
+pub record AddsOutput (old new : Built) (port : OutPort) : Type 0 where
+  pub later : Later old new
+  pub inputs : inputs new ≡ inputs old
+  pub outputs : new.outputs ≡ old.outputs ++ port ∷ []
+  pub undriven : undriven new ≡ undriven old

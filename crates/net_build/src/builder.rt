@@ -1,9 +1,9 @@
 ghost use Rattle.std.specs.Prelude.{◌≡◌, ℕ, ◌+◌, ◌-◌, ◌*◌, ◌/◌, ◌%◌, ◌^◌, ◌<◌, ◌≤◌, List, [], ◌∷◌, ◌++◌, length, IfOk, if◌then◌else◌, ◌==◌, nat_lt, bit_and, bit_or, bit_xor, codes, set, get_or, Contains};
 ghost use Rattle.net_cells.specs.Rules.{IsCell, IsNamed, IsWidth};
 ghost use Rattle.net_cells.specs.Values.{op_value};
-ghost use Rattle.net_build.specs.Built.{Built, items, wire_widths, names, undriven, IsWire, IsBit, IsRegister};
-ghost use Rattle.net_build.specs.Sound.{Follows, Makes};
-ghost use Rattle.net_build.specs.Values.{Solves, Ticks, Means, Takes, Later, Adds, Opens, Drives};
+ghost use Rattle.net_build.specs.Built.{Built, items, wire_widths, names, undriven, begun, IsWire, IsBit, IsRegister, IsNewName};
+ghost use Rattle.net_build.specs.Sound.{Follows, HasNext, IsLowInReset, Makes};
+ghost use Rattle.net_build.specs.Values.{Solves, Ticks, Means, Takes, Becomes, Later, Adds, AddsInput, AddsOutput, Opens, Drives};
 
 use crate::types::{Item, Kind, Made, Wire};
 use dip_lists::{Items, Memory};
@@ -33,6 +33,31 @@ impl Model for Builder {
 }
 
 impl Builder {
+    /// A builder with one input, `reset`, of one bit. It takes its memory from `alloc` as it grows.
+    pub fn new(alloc: Global, name: Name) -> Result<Builder, Memory>
+        requires { IsNamed (codes "m_") name }
+        ensures begun { IfOk result (λ b. b ≡ begun name) }
+        ensures reset { IfOk result (λ b. IsBit b (record { number = 0; width = 1 })) }
+    {
+        let Some(reset) = Name::new(alloc, "reset")? else {
+            unreachable!();
+        };
+        let mut made = Vec::new(alloc);
+        made.push(Made {
+            item: Item {
+                width: 1,
+                kind: Kind::Input(reset),
+            },
+            next: None,
+        })?;
+        Ok(Builder {
+            alloc,
+            name,
+            made,
+            outputs: Items::new(alloc),
+        })
+    }
+
     /// Makes one wire.
     fn make(&mut self, width: u32, kind: Kind) -> Result<Wire, Memory>
         requires width { IsWidth width }
@@ -47,6 +72,43 @@ impl Builder {
             next: None,
         })?;
         Ok(Wire { number, width })
+    }
+
+    /// A further input.
+    #[tactic(auto, using(crate::proofs::Wires::input_adds, crate::proofs::Wires::made_wire))]
+    pub fn input(&mut self, name: Name, width: u32) -> Result<Wire, Memory>
+        requires name { IsNewName self.old name }
+        requires width { IsWidth width }
+        ensures adds { IfOk result (λ _. AddsInput self.old self.new (record { name = name; width = width })) }
+        ensures wire { IfOk result (λ w. IsWire self.new w × (w.width ≡ width)) }
+    {
+        let wire = self.make(width, Kind::Input(name))?;
+        Ok(wire)
+    }
+
+    /// A further output, which shows a wire.
+    pub fn output(&mut self, name: Name, wire: Wire) -> Result<(), Memory>
+        requires name { IsNewName self.old name }
+        requires wire { IsWire self.old wire }
+        ensures adds { IfOk result (λ _. AddsOutput self.old self.new (record { name = name; net = wire.number })) }
+    {
+        self.outputs.push(OutPort {
+            name,
+            net: wire.number,
+        })?;
+        Ok(())
+    }
+
+    /// A register. It is 0 in the first cycle, and is to be driven before the builder is finished.
+    #[tactic(auto, using(crate::proofs::Wires::register_opens, crate::proofs::Wires::made_wire, crate::proofs::Wires::made_register))]
+    pub fn register(&mut self, width: u32) -> Result<Wire, Memory>
+        requires { IsWidth width }
+        ensures opens { IfOk result (λ w. Opens self.old self.new (w.number ∷ [])) }
+        ensures wire { IfOk result (λ w. IsWire self.new w × (w.width ≡ width)) }
+        ensures kept { IfOk result (λ w. IsRegister self.new w) }
+    {
+        let wire = self.make(width, Kind::Register)?;
+        Ok(wire)
     }
 
     /// Makes a cell.
@@ -209,5 +271,58 @@ impl Builder {
                 lo,
             },
         )
+    }
+
+    /// The input `reset`.
+    fn reset(&self) -> Wire
+        ensures wire { IsBit self.now result }
+        ensures number { result.number ≡ 0 }
+    {
+        let _made = &self.made;
+        Wire {
+            number: 0,
+            width: 1,
+        }
+    }
+
+    /// 0 where `reset` is 1, else a wire.
+    #[tactic(auto, using(crate::proofs::Steps::steps))]
+    fn unless_reset(&mut self, wire: Wire) -> Result<Wire, Memory>
+        requires { IsWire self.old wire }
+        ensures adds { IfOk result (λ _. Adds self.old self.new) }
+        ensures wire { IfOk result (λ w. IsWire self.new w × (w.width ≡ wire.width)) }
+        ensures value { IfOk result (λ w. Means self.new w (λ v. if v 0 == 1 then 0 else v wire.number)) }
+    {
+        let reset = self.reset();
+        let low = self.constant(wire.width, 0)?;
+        let kept = self.mux(reset, low, wire)?;
+        Ok(kept)
+    }
+
+    /// Puts a wire that is 0 where `reset` is 1 before a register.
+    fn put(&mut self, register: Wire, before: Wire)
+        requires register { IsRegister self.old register }
+        requires undriven { Contains (undriven self.old) register.number }
+        requires wire { IsWire self.old before × (before.width ≡ register.width) }
+        requires low { IsLowInReset self.old before.number }
+        ensures drives { Drives self.old self.new register.number }
+        ensures next { HasNext self.new register.number before.number }
+    {
+        self.made[register.number as usize].next = Some(before.number);
+    }
+
+    /// Drives a register: after a cycle it holds what `next` was in it, or 0 where `reset` was 1.
+    pub fn drive(&mut self, register: Wire, next: Wire) -> Result<(), Memory>
+        requires register { IsRegister self.old register }
+        requires undriven { Contains (undriven self.old) register.number }
+        requires next { IsWire self.old next }
+        requires width { next.width ≡ register.width }
+        ensures drives { IfOk result (λ _. Drives self.old self.new register.number) }
+        ensures takes { IfOk result (λ _. Takes self.new register (λ v. v next.number)) }
+        ensures becomes { IfOk result (λ _. Becomes self.new register (λ v. v next.number)) }
+    {
+        let before = self.unless_reset(next)?;
+        self.put(register, before);
+        Ok(())
     }
 }

@@ -1,0 +1,85 @@
+-- What stays as a builder grows, from one call to the next.
+use Rattle.std.proofs.Common.{◌≡◌, ℕ, ◌^◌, ◌<◌, ◌≤◌, Bool, List, [], ◌∷◌, ◌++◌, length, take, Option, Some, if◌then◌else◌, refl, sym, ap, ◌∙◌, subst, arith}
+use Rattle.std.specs.Prelude.{slice_get, ◌==◌}
+use Rattle.std.proofs.lemmas.List.{length-take-le}
+use Rattle.net_cells.specs.Rules.{HasWidth}
+use Rattle.net_build.specs.declared.types.Wire.{Wire}
+use Rattle.net_build.specs.Built.{Built, inputs, IsWire, IsBit, IsRegister}
+use Rattle.net_build.specs.Values.{Means, Tells, Takes, Becomes, Later, Adds, high}
+
+-- a front of a front
+take_take : {A : Type 0} (xs ys zs : List A) → take (length xs) ys ≡ xs → take (length ys) zs ≡ ys → take (length xs) zs ≡ xs
+take_take [] ys zs e f = refl
+take_take (x ∷ xs) [] zs e f = absurd cc
+take_take (x ∷ xs) (y ∷ ys) [] e f = absurd cc
+take_take (x ∷ xs) (y ∷ ys) (z ∷ zs) e f = ?
+
+pub later_later : (old mid new : Built) → Later old mid → Later mid new → Later old new
+later_later old mid new g h = record {
+  back = λ v s. g.back v (h.back v s);
+  keeps = λ n i e. h.keeps n i (g.keeps n i e);
+  wires = λ n w e. h.wires n w (g.wires n w e);
+  ticks = λ v u t. g.ticks v u (h.ticks v u t);
+  starts = λ v t. g.starts v (h.starts v t);
+  name = h.name ∙ g.name;
+  inputs = take_take _ _ _ g.inputs h.inputs;
+  outputs = take_take _ _ _ g.outputs h.outputs;
+}
+
+pub adds_later : (old new : Built) → Adds old new → Later old new
+adds_later old new a = a.later
+
+pub adds_adds : (old mid new : Built) → Adds old mid → Adds mid new → Adds old new
+adds_adds old mid new g h = record {
+  later = later_later old mid new g.later h.later;
+  inputs = h.inputs ∙ g.inputs;
+  outputs = h.outputs ∙ g.outputs;
+  undriven = h.undriven ∙ g.undriven;
+}
+
+pub wire_later : (old new : Built) (x : Wire) → Later old new → IsWire old x → IsWire new x
+wire_later old new x g h = record { has = g.wires x.number x.width h.has; sized = h.sized }
+
+pub bit_later : (old new : Built) (x : Wire) → Later old new → IsBit old x → IsBit new x
+bit_later old new x g h = record { wire = wire_later old new x g h.wire; one = h.one }
+
+pub bit_wire : (b : Built) (x : Wire) → IsBit b x → IsWire b x
+bit_wire b x h = h.wire
+
+pub bit_made : (b : Built) (x : Wire) → IsWire b x → x.width ≡ 1 → IsBit b x
+bit_made b x h e = record { wire = h; one = e }
+
+pub register_later : (old new : Built) (x : Wire) → Later old new → IsRegister old x → IsRegister new x
+register_later old new x g h = record { at = g.keeps x.number _ h.at }
+
+pub means_later : (old new : Built) (x : Wire) (f : (ℕ → ℕ) → ℕ) → Later old new → Means old x f → Means new x f
+means_later old new x f g m = record { at = λ v s. m.at v (g.back v s) }
+
+pub tells_later : (old new : Built) (x : Wire) (f : (ℕ → ℕ) → Bool) → Later old new → Tells old x f → Tells new x f
+tells_later old new x f g m = record { at = λ v s. m.at v (g.back v s) }
+
+pub takes_later : (old new : Built) (x : Wire) (f : (ℕ → ℕ) → ℕ) → Later old new → Takes old x f → Takes new x f
+takes_later old new x f g m = record { at = λ v u s t. m.at v u (g.back v s) (g.ticks v u t) }
+
+pub becomes_later : (old new : Built) (x : Wire) (f : (ℕ → ℕ) → ℕ) → Later old new → Becomes old x f → Becomes new x f
+becomes_later old new x f g m = record { at = λ v u s t z. m.at v u (g.back v s) (g.ticks v u t) z }
+
+pub wire_adds : (old new : Built) (x : Wire) → Adds old new → IsWire old x → IsWire new x
+wire_adds old new x g h = wire_later old new x g.later h
+
+pub bit_adds : (old new : Built) (x : Wire) → Adds old new → IsBit old x → IsBit new x
+bit_adds old new x g h = bit_later old new x g.later h
+
+pub register_adds : (old new : Built) (x : Wire) → Adds old new → IsRegister old x → IsRegister new x
+register_adds old new x g h = register_later old new x g.later h
+
+pub means_adds : (old new : Built) (x : Wire) (f : (ℕ → ℕ) → ℕ) → Adds old new → Means old x f → Means new x f
+means_adds old new x f g m = means_later old new x f g.later m
+
+pub tells_adds : (old new : Built) (x : Wire) (f : (ℕ → ℕ) → Bool) → Adds old new → Tells old x f → Tells new x f
+tells_adds old new x f g m = tells_later old new x f g.later m
+
+pub becomes_taken : (b : Built) (r : Wire) (f : (ℕ → ℕ) → ℕ) → Takes b r f → Becomes b r f
+becomes_taken b r f t = record { at = λ v u s k z. t.at v u s k ∙ ap (λ (c : Bool). if c then 0 else f v) z }
+
+pub ruleset steps = (adds_adds, wire_adds, bit_adds, bit_wire)
