@@ -4,3 +4,4 @@ pub mod Grown
 pub mod Wires
 pub mod Shown
 pub mod Steps
+pub mod Driven

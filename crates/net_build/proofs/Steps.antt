@@ -1,18 +1,25 @@
 -- What stays as a builder grows, from one call to the next.
 use Rattle.std.proofs.Common.{◌≡◌, ℕ, ◌^◌, ◌<◌, ◌≤◌, Bool, List, [], ◌∷◌, ◌++◌, length, take, Option, Some, if◌then◌else◌, refl, sym, ap, ◌∙◌, subst, arith}
-use Rattle.std.specs.Prelude.{slice_get, ◌==◌}
+use Rattle.std.specs.Prelude.{slice_get, filter, not, ◌==◌}
 use Rattle.std.proofs.lemmas.List.{length-take-le}
 use Rattle.net_cells.specs.Rules.{HasWidth}
 use Rattle.net_build.specs.declared.types.Wire.{Wire}
 use Rattle.net_build.specs.Built.{Built, inputs, IsWire, IsBit, IsRegister}
-use Rattle.net_build.specs.Values.{Means, Tells, Takes, Becomes, Later, Adds, high}
+use Rattle.net_build.specs.Values.{Means, Tells, Takes, Becomes, Later, Adds, Drives}
+use Rattle.net_build.specs.Sound.{HasNext, IsLowInReset}
 
 -- a front of a front
 take_take : {A : Type 0} (xs ys zs : List A) → take (length xs) ys ≡ xs → take (length ys) zs ≡ ys → take (length xs) zs ≡ xs
 take_take [] ys zs e f = refl
 take_take (x ∷ xs) [] zs e f = absurd cc
 take_take (x ∷ xs) (y ∷ ys) [] e f = absurd cc
-take_take (x ∷ xs) (y ∷ ys) (z ∷ zs) e f = ?
+take_take (x ∷ xs) (y ∷ ys) (z ∷ zs) e f =
+    let g : take (length xs) ys ≡ xs = cc in
+    let h : take (length ys) zs ≡ ys = cc in
+    let t : take (length xs) zs ≡ xs = take_take xs ys zs g h in
+    let a : z ≡ y = cc in
+    let b : y ≡ x = cc in
+    ap (λ c. c ∷ take (length xs) zs) (a ∙ b) ∙ ap (λ r. x ∷ r) t
 
 pub later_later : (old mid new : Built) → Later old mid → Later mid new → Later old new
 later_later old mid new g h = record {
@@ -83,3 +90,26 @@ pub becomes_taken : (b : Built) (r : Wire) (f : (ℕ → ℕ) → ℕ) → Takes
 becomes_taken b r f t = record { at = λ v u s k z. t.at v u s k ∙ ap (λ (c : Bool). if c then 0 else f v) z }
 
 pub ruleset steps = (adds_adds, wire_adds, bit_adds, bit_wire)
+
+-- a choice by the reset
+pub reset_means : (old mid new : Built) (reset low x w : Wire) → reset.number ≡ 0 → Adds old mid → Adds mid new → Means mid low (λ v. 0) → Means new w (λ v. if v reset.number == 1 then v low.number else v x.number) → Means new w (λ v. if v 0 == 1 then 0 else v x.number)
+reset_means old mid new reset low x w e g h l m = record {
+  at = λ v s.
+      m.at v s
+      ∙ ap (λ n. if v n == 1 then v low.number else v x.number) e
+      ∙ ap (λ n. if v 0 == 1 then n else v x.number) (l.at v (h.later.back v s));
+}
+
+pub low_in_reset : (b : Built) (w x : Wire) → Means b w (λ v. if v 0 == 1 then 0 else v x.number) → IsLowInReset b w.number
+low_in_reset b w x m = record { low = λ v s e. m.at v s ∙ ap (λ (c : Bool). if c then 0 else v x.number) (ap (λ n. n == 1) e) }
+
+pub drives_after : (old mid new : Built) (r : ℕ) → Adds old mid → Drives mid new r → Drives old new r
+drives_after old mid new r g h = record {
+  later = later_later old mid new g.later h.later;
+  inputs = h.inputs ∙ g.inputs;
+  outputs = h.outputs ∙ g.outputs;
+  undriven = h.undriven ∙ ap (filter (λ n. not (n == r))) g.undriven;
+}
+
+pub takes_next : (mid new : Built) (r w x : Wire) → Drives mid new r.number → HasNext new r.number w.number → Means mid w (λ v. if v 0 == 1 then 0 else v x.number) → Takes new r (λ v. v x.number)
+takes_next mid new r w x g h m = record { at = λ v u s t. h.next v u t ∙ m.at v (g.later.back v s) }
