@@ -142,10 +142,12 @@ later_driven b r m d e f =
       back = solves_driven b r m d e;
       keeps = λ n k g. rw i g;
       wires = λ n width h. rw i h;
-      ticks = λ v u t. record { takes = λ n x y g h. elim (cases_eq n r) [
-        | inl q ↦ absurd (none_some x.next y (ap (λ (z : Made). z.next) (let p : x ≡ m = some_same x m (sym g ∙ ap (slice_get b.made) q ∙ e) in p) ∙ f) h)
-        | inr q ↦ t.takes n x y (get_set_other b.made r (record { item = m.item; next = Some d }) n q ∙ g) h
-      ] };
+      ticks = λ v u t. record {
+        takes = λ n x y g h. elim (cases_eq n r) [
+          | inl q ↦ absurd (none_some x.next y (ap (λ (z : Made). z.next) (let p : x ≡ m = some_same x m (sym g ∙ ap (slice_get b.made) q ∙ e) in p) ∙ f) h)
+          | inr q ↦ t.takes n x y (get_set_other b.made r (record { item = m.item; next = Some d }) n q ∙ g) h
+        ];
+      };
       starts = λ v t. record { holds = λ n k g h. t.holds n k (rw i g) h };
       name = refl;
       inputs = ap (take (length (inputs b))) (ap (filter_map port_of) i) ∙ take_all (length (inputs b)) (inputs b) (omega arith);

@@ -5,3 +5,4 @@ pub mod Wires
 pub mod Shown
 pub mod Steps
 pub mod Driven
+pub mod Picked

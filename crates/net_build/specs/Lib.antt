@@ -1,3 +1,4 @@
 pub mod Built
 pub mod Values
 pub mod Sound
+pub mod Numbering

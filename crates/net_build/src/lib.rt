@@ -2,6 +2,7 @@
 #![tactic(auto)]
 
 mod builder;
+mod finish;
 mod types;
 
 pub use builder::Builder;
