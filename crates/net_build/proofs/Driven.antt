@@ -154,8 +154,8 @@ later_driven b r m d e f =
       outputs = take_all (length b.outputs) b.outputs (omega arith);
     }
 
-pub driven_sound : (b : Built) (r : ℕ) (m : Made) (d width : ℕ) → IsSound b → slice_get b.made r ≡ Some m → m.item.width ≡ width → HasWidth (wire_widths b) d width → IsLowInReset b d → IsSound (driven b r m d)
-driven_sound b r m d width s e w h l =
+pub driven_sound : (b : Built) (r : ℕ) (m : Made) (d width : ℕ) → IsSound b → slice_get b.made r ≡ Some m → m.item.width ≡ width → m.item.kind ≡ Register → HasWidth (wire_widths b) d width → IsLowInReset b d → IsSound (driven b r m d)
+driven_sound b r m d width s e w kind h l =
     let i = items_driven b r m d e in
     let x : Made = record { item = m.item; next = Some d } in
     record {
@@ -169,6 +169,10 @@ driven_sound b r m d width s e w h l =
             let k : HasWidth (wire_widths b) z y.item.width = subst (λ a. HasWidth (wire_widths b) a y.item.width) q (subst (λ a. HasWidth (wire_widths b) d a) (sym w ∙ ap (λ (m : Made). m.item.width) p.1) h) in
             rw i k
         | inr q ↦ rw i (s.nexts n y z q g)
+      ];
+      held = λ n y z f g. elim (get_set b.made r x n y f) [
+        | inl p ↦ sym (ap (λ (m : Made). m.item.kind) p.1) ∙ kind
+        | inr q ↦ s.held n y z q g
       ];
       resets = λ n y z f g v q t. elim (get_set b.made r x n y f) [
         | inl p ↦ ap v (some_is z d (sym g ∙ ap (λ (m : Made). m.next) (sym p.1))) ∙ l.low v (solves_driven b r m d e v q) t
@@ -194,27 +198,28 @@ driven_drives b r m d e f = record {
 pub driven_next : (b : Built) (r : ℕ) (m : Made) (d : ℕ) → r < length b.made → HasNext (driven b r m d) r d
 driven_next b r m d h = record { next = λ v u t. t.takes r (record { item = m.item; next = Some d }) d (get_set_same b.made r (record { item = m.item; next = Some d }) h) refl }
 
-register_width : (b : Built) (w : Wire) (m : Made) → IsRegister b w → slice_get b.made w.number ≡ Some m → m.item.width ≡ w.width
-register_width b w m h e =
+register_is : (b : Built) (w : Wire) (m : Made) → IsRegister b w → slice_get b.made w.number ≡ Some m → m.item ≡ record { width = w.width; kind = Register }
+register_is b w m h e =
     let f : Some m.item ≡ Some (record { width = w.width; kind = Register }) = sym (slice_get-map (λ (m : Made). m.item) b.made w.number ∙ ap (option_map (λ (m : Made). m.item)) e) ∙ h.at in
     let g : m.item ≡ record { width = w.width; kind = Register } = cc in
-    ap (λ (i : Item). i.width) g
+    g
 
 -- a wire may be put before this register
 pub record IsReady (b : Built) (register before : Wire) (m : Made) : Type 0 where
   pub here : slice_get b.made register.number ≡ Some m
   pub free : m.next ≡ None
   pub width : m.item.width ≡ before.width
+  pub kind : m.item.kind ≡ Register
 
 pub ready : (b now : Built) (register before : Wire) (m : Made) → b ≡ now → IsRegister now register → Contains (undriven now) register.number → before.width ≡ register.width → m ≡ get_or b.made register.number m → IsReady b register before m
 ready b now register before m same is waits w e =
     let h : IsRegister b register = rw same is in
     let c : Contains (undriven b) register.number = subst (λ (x : Built). Contains (undriven x) register.number) (sym same) waits in
     let f : slice_get b.made register.number ≡ Some m = slice_get_read b.made (length b.made) register.number m refl (exists b register.number c) e in
-    record { here = f; free = free b register.number m c f; width = register_width b register m h f ∙ sym w }
+    record { here = f; free = free b register.number m c f; width = ap (λ (i : Item). i.width) (register_is b register m h f) ∙ sym w; kind = ap (λ (i : Item). i.kind) (register_is b register m h f) }
 
 pub put_sound : (b : Built) (register before : Wire) (m : Made) → IsSound b → IsReady b register before m → IsWire b before → IsLowInReset b before.number → IsSound (driven b register.number m before.number)
-put_sound b register before m s r w l = driven_sound b register.number m before.number before.width s r.here r.width w.has l
+put_sound b register before m s r w l = driven_sound b register.number m before.number before.width s r.here r.width r.kind w.has l
 
 pub put_drives : (b : Built) (register before : Wire) (m : Made) → IsReady b register before m → Drives b (driven b register.number m before.number) register.number
 put_drives b register before m r = driven_drives b register.number m before.number r.here r.free

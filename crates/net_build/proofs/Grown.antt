@@ -117,6 +117,10 @@ grown_sound old new i s b f m =
         | inl h ↦ rw w (has_more (wire_widths old) (i.width ∷ []) d y.item.width (s.nexts n y d h g))
         | inr h ↦ absurd (none_some d (ap (λ (z : Made). z.next) h.1 ∙ g))
       ];
+      held = λ n y d e g. elim (get_either old.made x n y (subst (λ (z : List Made). slice_get z n ≡ Some y) m.made e)) [
+        | inl h ↦ s.held n y d h g
+        | inr h ↦ absurd (none_some d (ap (λ (z : Made). z.next) h.1 ∙ g))
+      ];
       resets = λ n y d e g v q z. elim (get_either old.made x n y (subst (λ (z : List Made). slice_get z n ≡ Some y) m.made e)) [
         | inl h ↦ s.resets n y d h g v (solves_back old new i s m v q) z
         | inr h ↦ absurd (none_some d (ap (λ (z : Made). z.next) h.1 ∙ g))

@@ -6,3 +6,7 @@ pub mod Shown
 pub mod Steps
 pub mod Driven
 pub mod Picked
+pub mod Places
+pub mod Finished
+pub mod Renamed
+pub mod Nets

@@ -30,6 +30,7 @@ output_sound b name w s n h =
       sized = s.sized;
       gates = s.gates;
       nexts = s.nexts;
+      held = s.held;
       resets = λ k m d e f v q z. s.resets k m d e f v (record { fits = q.fits; gates = q.gates }) z;
       ports = s.ports;
       shown = all_more _ b.outputs port s.shown (n.named, h.has.0);

@@ -23,6 +23,7 @@ pub record IsSound (b : Built) : Type 0 where
   pub sized : AllByRecursion IsWidth (wire_widths b)
   pub gates : (n : ℕ) (i : Item) (op : CellOp) → slice_get (items b) n ≡ Some i → i.kind ≡ Gate op → IsCell (take n (wire_widths b)) i.width op
   pub nexts : (n : ℕ) (m : Made) (d : ℕ) → slice_get b.made n ≡ Some m → m.next ≡ Some d → HasWidth (wire_widths b) d m.item.width
+  pub held : (n : ℕ) (m : Made) (d : ℕ) → slice_get b.made n ≡ Some m → m.next ≡ Some d → m.item.kind ≡ Register
   pub resets : (n : ℕ) (m : Made) (d : ℕ) → slice_get b.made n ≡ Some m → m.next ≡ Some d → (v : ℕ → ℕ) → Solves b v → v 0 ≡ 1 → v d ≡ 0
   pub ports : AllByRecursion (λ (p : Port). IsNamed (codes "p_") p.name) (drop 1 (inputs b))
   pub shown : AllByRecursion (λ (o : OutPort). IsNamed (codes "p_") o.name × IsNet (wire_widths b) o.net) b.outputs
