@@ -12,7 +12,7 @@ skip None false rest c e = ap (slice_get rest) (let z : 0 + c ≡ c = omega arit
 skip (Some y) true rest c e = ap (slice_get (y ∷ rest)) (let z : 1 + c ≡ suc c = omega arith in z)
 skip (Some y) false rest c e = absurd cc
 
-count_cons : {X : Type 0} (p : X → Bool) (x : X) (xs : List X) → count_by p (x ∷ xs) ≡ cond (p x) 1 0 + count_by p xs
+pub count_cons : {X : Type 0} (p : X → Bool) (x : X) (xs : List X) → count_by p (x ∷ xs) ≡ cond (p x) 1 0 + count_by p xs
 count_cons p x xs = sum_by-append (λ x. cond (p x) 1 0) (x ∷ []) xs ∙ ap (λ n. n + count_by p xs) (let z : 0 + cond (p x) 1 0 ≡ cond (p x) 1 0 = omega arith in z)
 
 -- what is picked from a wire stands behind what is picked from the earlier ones

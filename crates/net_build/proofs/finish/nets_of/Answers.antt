@@ -1,4 +1,4 @@
-use Rattle.net_build.proofs.Finished.{test}
+use Rattle.net_build.proofs.Finished.{well, carried, no_loop}
 use Rattle.std.proofs.Common.{sym, ap, ◌∙◌}
 use Rattle.net_build.specs.declared.finish.Counts.{Counts}
 use Rattle.net_build.specs.Numbering.{counted}
