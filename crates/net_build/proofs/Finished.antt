@@ -2,11 +2,13 @@
 use Rattle.std.proofs.Common.{◌≡◌, ◌≢◌, ℕ, zero, suc, ◌+◌, ◌^◌, ◌<◌, ◌≤◌, inl, inr, Bool, true, false, ◌&&◌, cond, List, [], ◌∷◌, ◌++◌, length, map, take, drop, get_or, Option, Some, None, is_some, is_none, refl, sym, ap, ◌∙◌, subst, arith}
 use Rattle.std.specs.Prelude.{slice_get, slice_index, count_by, codes, All, AllPairs}
 use Rattle.std.specs.List.{AllByRecursion, filter_map}
-use Rattle.std.proofs.lemmas.List.{length-map, length-take}
+use Rattle.std.proofs.lemmas.List.{length-map, length-take, get_or_past}
 use Rattle.std.proofs.lemmas.List.Elements.{All-map}
 use Rattle.std.proofs.lemmas.List.Kept.{AllPairs-cons}
 use Rattle.std.proofs.lemmas.List.Sums.{sum_by-append}
-use Rattle.std.proofs.lemmas.Option.{slice_get_within, slice_get_cases, get_or_from_slice_get}
+use Rattle.std.proofs.lemmas.Option.{slice_get_within, slice_get_cases, slice_get_past, get_or_from_slice_get}
+use Rattle.std.proofs.lemmas.Bool.{cases_lt}
+use Rattle.std.proofs.Math.Path.{fun_ext}
 use Rattle.net_cells.specs.declared.netlist.CellOp.{CellOp}
 use Rattle.net_cells.specs.declared.netlist.Cell.{Cell}
 use Rattle.net_cells.specs.declared.netlist.OutPort.{OutPort}
@@ -26,11 +28,11 @@ use Rattle.net_build.specs.declared.types.Made.{Made}
 use Rattle.net_build.specs.Built.{Built, inputs, is_register, is_undriven, items, names, port_of, port_of_kind, undriven, wire_widths}
 use Rattle.net_build.specs.Values.{AtStart, Solves, Ticks}
 use Rattle.net_build.specs.Sound.{Differ, IsSound}
-use Rattle.net_build.specs.Numbering.{Carries, at_wires, cell_of, cell_of_kind, counts_of, finished, is_gate, is_input, net_among, net_at, net_of, next_of, out_of, reg_of, reg_of_kind, renamed}
+use Rattle.net_build.specs.Numbering.{AreNets, Carries, netlist_by, at_wires, cell_of, cell_of_kind, counts_of, finished, is_gate, is_input, net_among, net_at, net_of, next_of, out_of, reg_of, reg_of_kind, renamed}
 use Rattle.net_build.proofs.Cells.{cell_whole}
 use Rattle.net_build.proofs.Lists.{all_weaker}
 use Rattle.net_build.proofs.Places.{all_picked, get_behind, get_mapped, none_passes, picked, placed, count_cons}
-use Rattle.net_build.proofs.Nets.{MappedFrom, cell_here, gate_test, gates_in, get_has, has_get, input_test, inputs_in, keeps_widths, many_cells, many_inputs, many_regs, many_sources, mapped, net_below, reg_here, reg_test, regs_in}
+use Rattle.net_build.proofs.Nets.{MappedFrom, inputs_picked, cell_here, gate_test, gates_in, get_has, has_get, input_test, inputs_in, keeps_widths, many_cells, many_inputs, many_regs, many_sources, mapped, net_below, reg_here, reg_test, regs_in}
 use Rattle.net_build.proofs.Renamed.{operands_renamed, rule_renamed, value_renamed}
 
 -- what a wire gives to the netlist
@@ -173,8 +175,8 @@ reads_below b s net other r =
     let l : q.place < length ms = slice_get_within ms q.place m q.is in
     let e : AllByRecursion (λ x. x < length (take q.place (wire_widths b))) (operands g.op) = exist (take q.place (wire_widths b)) m.item.width g.op (gate_rule b s q.place m g.op q.is g.kind) in
     let low : (x : ℕ) → x < length (take q.place (wire_widths b)) → net_of ms x < net = λ x h.
-        let w = wire_at b x (omega arith) in
-        omega (arith, net_below b q.place x w.made w.is (omega arith) (omega arith), r.here, q.at, many_sources b) in
+    let w = wire_at b x (omega arith) in
+    omega (arith, net_below b q.place x w.made w.is (omega arith) (omega arith), r.here, q.at, many_sources b) in
     let below : AllByRecursion (λ x. x < net) (operands (renamed (net_of ms) g.op)) = operands_renamed (λ x. x < net) (net_of ms) g.op (all_weaker (λ x. x < length (take q.place (wire_widths b))) (λ x. net_of ms x < net) (operands g.op) low e) in
     let same : AllByRecursion (λ x. x < net) (operands r.cell.op) = subst (λ (c : Cell). AllByRecursion (λ x. x < net) (operands c.op)) (sym g.is) below in
     pick (λ x. x < net) (operands r.cell.op) same other r.operand.0 r.operand.1 r.operand.2
@@ -245,3 +247,28 @@ carried b s = record {
         ∙ ap (λ o. v (next_of (net_of b.made) o)) f;
   };
 }
+
+same_nets : (ms : List Made) (nets : List ℕ) → AreNets ms nets → (w : ℕ) → slice_index nets w ≡ net_of ms w
+same_nets ms nets h w = elim (cases_lt w (length ms)) [
+  | inl s ↦ h.each w s
+  | inr t ↦ get_or_past nets w 0 (let l = h.long in let z : length nets ≤ w = omega arith in z) ∙ sym (ap (net_at ms w) (slice_get_past ms w t))
+]
+
+same_parts : (n m : Netlist) → n.name ≡ m.name → n.inputs ≡ m.inputs → n.regs ≡ m.regs → n.cells ≡ m.cells → n.outputs ≡ m.outputs → n ≡ m
+same_parts n m e f g h i = λ k. record { name = e k; inputs = f k; regs = g k; cells = h k; outputs = i k }
+
+-- the parts of a netlist by a list of the nets
+pub finished_by : (b : Built) (nets : List ℕ) (n : Netlist) → AreNets b.made nets → n.name ≡ b.name → n.inputs ≡ filter_map (λ (m : Made). port_of m.item) b.made → n.regs ≡ filter_map (reg_of (slice_index nets)) b.made → n.cells ≡ filter_map (cell_of (slice_index nets)) b.made → n.outputs ≡ map (out_of (slice_index nets)) b.outputs → n ≡ finished b
+finished_by b nets n a e f g h i =
+    let r : slice_index nets ≡ net_of b.made = fun_ext (same_nets b.made nets a) in
+    let same : n ≡ netlist_by (slice_index nets) b = same_parts n (netlist_by (slice_index nets) b) e (f ∙ sym (inputs_picked b)) g h i in
+    same ∙ ap (λ (r : ℕ → ℕ). netlist_by r b) r
+
+pub finished_well : (b now : Built) (n : Netlist) → b ≡ now → IsSound b → undriven now ≡ [] → length b.made < 2 ^ 64 → n ≡ finished b → IsWellFormed n
+finished_well b now n same s u few e = subst IsWellFormed (sym e) (well b s (ap undriven same ∙ u) few)
+
+pub finished_ordered : (b : Built) (n : Netlist) → IsSound b → n ≡ finished b → HasNoLoop n
+finished_ordered b n s e = subst HasNoLoop (sym e) (no_loop b s)
+
+pub finished_carries : (b now : Built) (n : Netlist) → b ≡ now → IsSound b → n ≡ finished b → Carries n now
+finished_carries b now n same s e = subst (λ (x : Built). Carries n x) same (subst (λ (x : Netlist). Carries x b) (sym e) (carried b s))

@@ -1,14 +1,17 @@
 ghost use Rattle.std.specs.Prelude.{◌≡◌, ℕ, ◌+◌, ◌-◌, ◌*◌, ◌/◌, ◌%◌, ◌^◌, ◌<◌, ◌≤◌, List, [], ◌∷◌, ◌++◌, length, IfOk, if◌then◌else◌, ◌==◌, nat_lt, bit_and, bit_or, bit_xor, codes, set, get_or, Contains};
-ghost use Rattle.net_cells.specs.Rules.{IsCell, IsNamed, IsWidth};
+ghost use Rattle.net_cells.specs.Loops.{HasNoLoop};
+ghost use Rattle.net_cells.specs.Rules.{IsCell, IsNamed, IsWellFormed, IsWidth};
+ghost use Rattle.net_build.specs.Numbering.{Carries, finished};
 ghost use Rattle.net_cells.specs.Values.{op_value};
 ghost use Rattle.net_build.specs.Built.{Built, items, wire_widths, names, undriven, begun, IsWire, IsBit, IsRegister, IsNewName};
 ghost use Rattle.net_build.specs.Sound.{Follows, HasNext, IsLowInReset, Makes};
 ghost use Rattle.net_build.specs.Values.{Solves, Ticks, Means, Takes, Becomes, Later, Adds, AddsInput, AddsOutput, Opens, Drives};
 
+use crate::finish::netlist_of;
 use crate::types::{Item, Kind, Made, Wire};
 use dip_lists::{Items, Memory};
 use dip_sets::Name;
-use net_cells::{CellOp, OutPort, OutPorts};
+use net_cells::{CellOp, Netlist, OutPort, OutPorts};
 use std::alloc::Global;
 use std::marker::Model;
 
@@ -324,5 +327,24 @@ impl Builder {
         let before = self.unless_reset(next)?;
         self.put(register, before);
         Ok(())
+    }
+
+    /// The netlist: its inputs, registers, cells and outputs stand in the order of making, and each wire keeps
+    /// its value.
+    pub fn finish(self) -> Result<Netlist, Memory>
+        requires { undriven self ≡ [] }
+        ensures netlist { IfOk result (λ n. n ≡ finished self) }
+        ensures well_formed { IfOk result IsWellFormed }
+        ensures no_loop { IfOk result HasNoLoop }
+        ensures carries { IfOk result (λ n. Carries n self) }
+    {
+        let Builder {
+            alloc,
+            name,
+            made,
+            outputs,
+        } = self;
+        let netlist = netlist_of(alloc, name, &made, outputs.as_slice())?;
+        Ok(netlist)
     }
 }

@@ -2,11 +2,12 @@ ghost use Rattle.std.specs.Prelude.{◌≡◌, ℕ, ◌+◌, ◌^◌, ◌<◌, I
 ghost use Rattle.std.specs.List.{cons_option, filter_map};
 ghost use Rattle.net_build.specs.declared.types.Made.{Made};
 ghost use Rattle.net_build.specs.Built.{port_of};
-ghost use Rattle.net_build.specs.Numbering.{AreNets, cell_of, counted, counts_of, net_among, next_of, out_of, reg_of, renamed};
+ghost use Rattle.net_build.specs.Numbering.{AreNets, cell_of, counted, counts_of, finished, net_among, next_of, out_of, reg_of, renamed};
 
 use crate::types::{Item, Kind, Made};
 use dip_lists::{Items, Memory};
-use net_cells::{Cell, CellList, CellOp, OutPort, OutPorts, Port, Ports, Reg, Regs};
+use dip_sets::Name;
+use net_cells::{Cell, CellList, CellOp, Netlist, OutPort, OutPorts, Port, Ports, Reg, Regs};
 use std::alloc::Global;
 
 /// How many wires of each kind there are.
@@ -62,7 +63,7 @@ fn net_among(all: Counts, before: Counts, kind: &Kind) -> u64
 }
 
 /// The nets of all wires, in their order.
-pub fn nets_of(alloc: Global, made: &[Made]) -> Result<Vec<u64>, Memory>
+fn nets_of(alloc: Global, made: &[Made]) -> Result<Vec<u64>, Memory>
     ensures { IfOk result (λ nets. AreNets made.now nets.items) }
 {
     let all = count(made);
@@ -161,7 +162,7 @@ fn push_some<T: Drop>(items: &mut Items<T>, item: Option<T>) -> Result<(), Memor
 }
 
 /// The inputs.
-pub fn ports_of(alloc: Global, made: &[Made]) -> Result<Ports, Memory>
+fn ports_of(alloc: Global, made: &[Made]) -> Result<Ports, Memory>
     ensures { IfOk result (λ ports. ports ≡ filter_map (λ (m : Made). port_of m.item) made.now) }
 {
     let mut ports = Items::new(alloc);
@@ -172,7 +173,7 @@ pub fn ports_of(alloc: Global, made: &[Made]) -> Result<Ports, Memory>
 }
 
 /// The registers, with the nets numbered anew.
-pub fn regs_of(alloc: Global, made: &[Made], nets: &[u64]) -> Result<Regs, Memory>
+fn regs_of(alloc: Global, made: &[Made], nets: &[u64]) -> Result<Regs, Memory>
     ensures { IfOk result (λ regs. regs ≡ filter_map (reg_of (slice_index nets.now)) made.now) }
 {
     let mut regs = Items::new(alloc);
@@ -183,7 +184,7 @@ pub fn regs_of(alloc: Global, made: &[Made], nets: &[u64]) -> Result<Regs, Memor
 }
 
 /// The cells, with the nets numbered anew.
-pub fn cells_of(alloc: Global, made: &[Made], nets: &[u64]) -> Result<CellList, Memory>
+fn cells_of(alloc: Global, made: &[Made], nets: &[u64]) -> Result<CellList, Memory>
     ensures { IfOk result (λ cells. cells ≡ filter_map (cell_of (slice_index nets.now)) made.now) }
 {
     let mut cells = Items::new(alloc);
@@ -194,7 +195,7 @@ pub fn cells_of(alloc: Global, made: &[Made], nets: &[u64]) -> Result<CellList, 
 }
 
 /// The outputs, with the nets numbered anew.
-pub fn outputs_of(alloc: Global, ports: &[OutPort], nets: &[u64]) -> Result<OutPorts, Memory>
+fn outputs_of(alloc: Global, ports: &[OutPort], nets: &[u64]) -> Result<OutPorts, Memory>
     ensures { IfOk result (λ outputs. outputs ≡ map (out_of (slice_index nets.now)) ports.now) }
 {
     let mut outputs = Items::new(alloc);
@@ -205,4 +206,28 @@ pub fn outputs_of(alloc: Global, ports: &[OutPort], nets: &[u64]) -> Result<OutP
         })?;
     }
     Ok(outputs)
+}
+
+/// The netlist of a builder with this name, these wires and these outputs.
+pub fn netlist_of(
+    alloc: Global,
+    name: Name,
+    made: &[Made],
+    outputs: &[OutPort],
+) -> Result<Netlist, Memory>
+    ensures { IfOk result (λ n. n ≡ finished (record { name = name; made = made.now; outputs = outputs.now })) }
+{
+    let list = nets_of(alloc, made)?;
+    let nets = list.as_slice();
+    let inputs = ports_of(alloc, made)?;
+    let regs = regs_of(alloc, made, nets)?;
+    let cells = cells_of(alloc, made, nets)?;
+    let outputs = outputs_of(alloc, outputs, nets)?;
+    Ok(Netlist {
+        name,
+        inputs,
+        regs,
+        cells,
+        outputs,
+    })
 }
