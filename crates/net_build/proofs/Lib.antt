@@ -10,3 +10,5 @@ pub mod Places
 pub mod Finished
 pub mod Renamed
 pub mod Nets
+pub mod Gates
+pub mod Folded

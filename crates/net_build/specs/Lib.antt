@@ -2,3 +2,4 @@ pub mod Built
 pub mod Values
 pub mod Sound
 pub mod Numbering
+pub mod Folds

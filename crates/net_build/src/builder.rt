@@ -276,6 +276,11 @@ impl Builder {
         )
     }
 
+    /// The allocator from which the builder takes its memory.
+    pub(crate) fn alloc(&self) -> Global {
+        self.alloc
+    }
+
     /// The input `reset`.
     fn reset(&self) -> Wire
         ensures wire { IsBit self.now result }

@@ -12,9 +12,9 @@ returns c =
     let b : Built = record { name = f.name; made = f.made.items; outputs = f.outputs } in
     let n = c.in_ok-netlist.netlist in
     let e : n ≡ finished b =
-        c.in_ok-netlist.ensures
-        ∙ ap (λ (ms : List Made). finished (record { name = f.name; made = ms; outputs = c.as_slice.result.now })) c.deref.ensures.value
-        ∙ ap (λ (os : List OutPort). finished (record { name = f.name; made = f.made.items; outputs = os })) c.as_slice.ensures in
+    c.in_ok-netlist.ensures
+    ∙ ap (λ (ms : List Made). finished (record { name = f.name; made = ms; outputs = c.as_slice.result.now })) c.deref.ensures.value
+    ∙ ap (λ (os : List OutPort). finished (record { name = f.name; made = f.made.items; outputs = os })) c.as_slice.ensures in
     let few : length b.made < 2 ^ 64 = omega (arith, c.deref.type_inv.0, ap length c.deref.ensures.value) in
     record {
       netlist = e ∙ ap finished c.self.view_is;
