@@ -28,7 +28,7 @@ use Rattle.net_build.specs.declared.types.Made.{Made}
 use Rattle.net_build.specs.Built.{Built, inputs, is_register, is_undriven, items, names, port_of, port_of_kind, undriven, wire_widths}
 use Rattle.net_build.specs.Values.{AtStart, Solves, Ticks}
 use Rattle.net_build.specs.Sound.{Differ, IsSound}
-use Rattle.net_build.specs.Numbering.{AreNets, Carries, netlist_by, at_wires, cell_of, cell_of_kind, counts_of, finished, is_gate, is_input, net_among, net_at, net_of, next_of, out_of, reg_of, reg_of_kind, renamed}
+use Rattle.net_build.specs.Numbering.{AreNets, Resets, Carries, netlist_by, at_wires, cell_of, cell_of_kind, counts_of, finished, is_gate, is_input, net_among, net_at, net_of, next_of, out_of, reg_of, reg_of_kind, renamed}
 use Rattle.net_build.proofs.Cells.{cell_whole}
 use Rattle.net_build.proofs.Lists.{all_weaker}
 use Rattle.net_build.proofs.Places.{all_picked, get_behind, get_mapped, none_passes, picked, placed, count_cons}
@@ -272,3 +272,22 @@ finished_ordered b n s e = subst HasNoLoop (sym e) (no_loop b s)
 
 pub finished_carries : (b now : Built) (n : Netlist) → b ≡ now → IsSound b → n ≡ finished b → Carries n now
 finished_carries b now n same s e = subst (λ (x : Built). Carries n x) same (subst (λ (x : Netlist). Carries x b) (sym e) (carried b s))
+
+-- the reset is net 0
+reset_net : (b : Built) → IsSound b → net_of b.made 0 ≡ 0
+reset_net b s =
+    let m = mapped (λ (m : Made). m.item) b.made 0 _ s.reset in
+    ap (net_at b.made 0) m.is ∙ ap (λ (i : Item). net_among (counts_of b.made) (counts_of (take 0 b.made)) i.kind) m.gives
+
+reg_resets : (b : Built) → IsSound b → undriven b ≡ [] → (given : List ℕ) (v : ℕ → ℕ) → IsCycle (finished b) given v → v 0 ≡ 1 → (w : ℕ) (m : Made) (y : Reg) → slice_get b.made w ≡ Some m → reg_of (net_of b.made) m ≡ Some y → v y.next ≡ 0
+reg_resets b s u given v c z w m y e f =
+    let g = reg_gives (net_of b.made) m.item.width m.next m.item.kind y f in
+    let d = driven_by m.next (is_driven m g.kind (none_passes is_undriven 0 b.made u w m e)) in
+    ap (λ (y : Reg). v y.next) g.is
+    ∙ ap (λ o. v (next_of (net_of b.made) o)) d.is
+    ∙ s.resets w m d.wire e d.is (at_wires b v) (solved b s given v c) (ap v (reset_net b s) ∙ z)
+
+pub finished_resets : (b : Built) (n : Netlist) → IsSound b → undriven b ≡ [] → n ≡ finished b → Resets n
+finished_resets b n s u e = subst Resets (sym e) (λ given v c z.
+    All-map (λ x. x ≡ 0) (λ (r : Reg). v r.next) (finished b).regs
+    (all_picked (reg_of (net_of b.made)) (λ (m : Made). is_register m.item.kind) (λ (y : Reg). v y.next ≡ 0) (λ m. reg_test (net_of b.made) m.item.width m.next m.item.kind) b.made (λ w m y f g. reg_resets b s u given v c z w m y f g)))

@@ -1,5 +1,5 @@
 -- The netlist of a finished builder, and that each wire keeps its value in it.
-use Rattle.std.specs.Prelude.{◌≡◌, ℕ, ◌+◌, ◌<◌, Bool, true, false, List, ◌++◌, length, map, take, count_by, Option, Some, None, slice_get, slice_index}
+use Rattle.std.specs.Prelude.{◌≡◌, ℕ, ◌+◌, ◌<◌, Bool, true, false, List, ◌++◌, length, map, take, count_by, Option, Some, None, slice_get, slice_index, All}
 use Rattle.std.specs.List.{filter_map}
 use Rattle.net_cells.specs.declared.netlist.CellOp.{CellOp}
 use Rattle.net_cells.specs.declared.netlist.CellOp.TheVariants.{Const, Not, And, Or, Xor, Add, Sub, Eq, Less, Mux, Concat, Select}
@@ -121,3 +121,7 @@ counted c (Gate op) = record { inputs = c.inputs; regs = c.regs; gates = c.gates
 pub record AreNets (ms : List Made) (nets : List ℕ) : Type 0 where
   pub long : length nets ≡ length ms
   pub each : (w : ℕ) → w < length ms → slice_index nets w ≡ net_of ms w
+
+-- After a cycle in which net 0, the reset, is 1, every register holds 0.
+abbrev pub Resets : Netlist → Type 0
+Resets n = (given : List ℕ) (v : ℕ → ℕ) → IsCycle n given v → v 0 ≡ 1 → All (λ x. x ≡ 0) (next_registers n v)

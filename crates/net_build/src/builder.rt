@@ -1,7 +1,7 @@
 ghost use Rattle.std.specs.Prelude.{◌≡◌, ℕ, ◌+◌, ◌-◌, ◌*◌, ◌/◌, ◌%◌, ◌^◌, ◌<◌, ◌≤◌, List, [], ◌∷◌, ◌++◌, length, IfOk, if◌then◌else◌, ◌==◌, nat_lt, bit_and, bit_or, bit_xor, codes, set, get_or, Contains};
 ghost use Rattle.net_cells.specs.Loops.{HasNoLoop};
 ghost use Rattle.net_cells.specs.Rules.{IsCell, IsNamed, IsWellFormed, IsWidth};
-ghost use Rattle.net_build.specs.Numbering.{Carries, finished};
+ghost use Rattle.net_build.specs.Numbering.{Carries, Resets, finished};
 ghost use Rattle.net_cells.specs.Values.{op_value};
 ghost use Rattle.net_build.specs.Built.{Built, items, wire_widths, names, undriven, begun, IsWire, IsBit, IsRegister, IsNewName};
 ghost use Rattle.net_build.specs.Sound.{Follows, HasNext, IsLowInReset, Makes};
@@ -342,6 +342,7 @@ impl Builder {
         ensures well_formed { IfOk result IsWellFormed }
         ensures no_loop { IfOk result HasNoLoop }
         ensures carries { IfOk result (λ n. Carries n self) }
+        ensures resets { IfOk result Resets }
     {
         let Builder {
             alloc,

@@ -1,9 +1,9 @@
 use Rattle.std.proofs.Common.{◌≡◌, ◌<◌, ◌^◌, List, ap, ◌∙◌, length, arith}
 use Rattle.net_cells.specs.declared.netlist.OutPort.{OutPort}
 use Rattle.net_build.specs.declared.types.Made.{Made}
-use Rattle.net_build.specs.Built.{Built}
+use Rattle.net_build.specs.Built.{Built, undriven}
 use Rattle.net_build.specs.Numbering.{finished}
-use Rattle.net_build.proofs.Finished.{finished_well, finished_ordered, finished_carries}
+use Rattle.net_build.proofs.Finished.{finished_well, finished_ordered, finished_carries, finished_resets}
 use Rattle.net_build.proofs.builder.Builder.finish.Goals as goal
 
 pub returns : goal.returns
@@ -21,4 +21,5 @@ returns c =
       well_formed = finished_well b c.args.self n c.self.view_is c.self.invariant c.requires few e;
       no_loop = finished_ordered b n c.self.invariant e;
       carries = finished_carries b c.args.self n c.self.view_is c.self.invariant e;
+      resets = finished_resets b n c.self.invariant (ap undriven c.self.view_is ∙ c.requires) e;
     }
