@@ -5,7 +5,7 @@ use Rattle.std.proofs.lemmas.List.{length-take-le}
 use Rattle.net_cells.specs.Rules.{HasWidth}
 use Rattle.net_build.specs.declared.types.Wire.{Wire}
 use Rattle.net_build.specs.Built.{Built, inputs, IsWire, IsBit, IsRegister}
-use Rattle.net_build.specs.Values.{Means, Tells, Takes, Becomes, Later, Adds, Drives}
+use Rattle.net_build.specs.Values.{Means, Tells, Takes, Becomes, Later, Adds, Drives, Opens}
 use Rattle.net_build.specs.Sound.{HasNext, IsLowInReset}
 
 -- a front of a front
@@ -113,3 +113,15 @@ drives_after old mid new r g h = record {
 
 pub takes_next : (mid new : Built) (r w x : Wire) → Drives mid new r.number → HasNext new r.number w.number → Means mid w (λ v. if v 0 == 1 then 0 else v x.number) → Takes new r (λ v. v x.number)
 takes_next mid new r w x g h m = record { at = λ v u s t. h.next v u t ∙ m.at v (g.later.back v s) }
+
+pub opens_later : (old new : Built) (rs : List ℕ) → Opens old new rs → Later old new
+opens_later old new rs h = h.later
+
+pub drives_later : (old new : Built) (r : ℕ) → Drives old new r → Later old new
+drives_later old new r h = h.later
+
+pub wire_drives : (old new : Built) (x : Wire) (r : ℕ) → Drives old new r → IsWire old x → IsWire new x
+wire_drives old new x r g h = wire_later old new x g.later h
+
+pub wire_opens : (old new : Built) (x : Wire) (rs : List ℕ) → Opens old new rs → IsWire old x → IsWire new x
+wire_opens old new x rs g h = wire_later old new x g.later h

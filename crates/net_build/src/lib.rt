@@ -10,3 +10,6 @@ mod types;
 pub use bits::{both, either, inverse, low};
 pub use builder::Builder;
 pub use types::{Item, Kind, Made, Wire, Wires};
+
+#[cfg(test)]
+mod tests;

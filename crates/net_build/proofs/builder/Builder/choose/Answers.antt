@@ -16,8 +16,9 @@ mux-requires-clause-pick c = bit_at _ _ c.args.picks.now _ _ c.requires.picks c.
 
 pub mux-requires-clause-wires : goal.mux-requires-clause-wires
 mux-requires-clause-wires c = (
-    value_at _ _ c.args.values.now _ _ c.requires.values c.loop-done.invariant.adds (omega (arith, c.loop-done-test.true, c.requires.long)),
-    c.loop-done.invariant.wire)
+  value_at _ _ c.args.values.now _ _ c.requires.values c.loop-done.invariant.adds (omega (arith, c.loop-done-test.true, c.requires.long)),
+  c.loop-done.invariant.wire,
+)
 
 pub loop-done-preserved : goal.loop-done-preserved
 loop-done-preserved c =

@@ -9,8 +9,9 @@ alone-requires c = (c.loop-wire.invariant.bit, bit_at _ _ c.args.wires.now c.loo
 
 pub either-requires : goal.either-requires
 either-requires c = (
-    bit_adds _ _ _ c.in_ok-mine.ensures.adds c.loop-wire.invariant.bit,
-    bit_adds _ _ _ c.in_ok-mine.ensures.adds (bit_at _ _ c.args.wires.now c.loop-wire.wire-index _ c.requires c.loop-wire.invariant.adds c.loop-wire-test.true))
+  bit_adds _ _ _ c.in_ok-mine.ensures.adds c.loop-wire.invariant.bit,
+  bit_adds _ _ _ c.in_ok-mine.ensures.adds (bit_at _ _ c.args.wires.now c.loop-wire.wire-index _ c.requires c.loop-wire.invariant.adds c.loop-wire-test.true),
+)
 
 pub loop-wire-preserved : goal.loop-wire-preserved
 loop-wire-preserved c =
