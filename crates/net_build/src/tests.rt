@@ -151,7 +151,6 @@ fn a_counter_counts_and_is_reset(rt: HostRuntime) -> Result<(), Fail> {
 }
 
 /// A netlist of two inputs of one width, and the operators that take two such.
-#[tactic(auto, using(crate::proofs::Steps::steps))]
 fn operators(alloc: Global, width: u32) -> Result<Netlist, Memory>
     requires { IsWidth width }
 {
