@@ -1,10 +1,13 @@
 -- What stays as a builder grows, from one call to the next.
 use Rattle.std.proofs.Common.{◌≡◌, ℕ, ◌^◌, ◌<◌, ◌≤◌, Bool, List, [], ◌∷◌, ◌++◌, length, take, Option, Some, if◌then◌else◌, refl, sym, ap, ◌∙◌, subst, arith}
-use Rattle.std.specs.Prelude.{slice_get, filter, not, ◌==◌}
-use Rattle.std.proofs.lemmas.List.{length-take-le}
+use Rattle.std.specs.Prelude.{slice_get, filter, not, ◌==◌, Contains}
+use Rattle.std.proofs.lemmas.List.{get_or_append_left, length-append}
+use Rattle.std.proofs.lemmas.Bool.{ne_eqb}
+use Rattle.std.proofs.lemmas.Option.{slice_get_within}
+use Rattle.std.proofs.Common.{◌≢◌, zero, suc, ◌+◌, false, true, cond, get_or}
 use Rattle.net_cells.specs.Rules.{HasWidth}
 use Rattle.net_build.specs.declared.types.Wire.{Wire}
-use Rattle.net_build.specs.Built.{Built, inputs, IsWire, IsBit, IsRegister}
+use Rattle.net_build.specs.Built.{Built, inputs, IsWire, IsBit, IsRegister, IsUndriven, items, undriven}
 use Rattle.net_build.specs.Values.{Means, Tells, Takes, Becomes, Later, Adds, Drives, Opens}
 use Rattle.net_build.specs.Sound.{HasNext, IsLowInReset}
 
@@ -125,3 +128,43 @@ wire_drives old new x r g h = wire_later old new x g.later h
 
 pub wire_opens : (old new : Built) (x : Wire) (rs : List ℕ) → Opens old new rs → IsWire old x → IsWire new x
 wire_opens old new x rs g h = wire_later old new x g.later h
+
+contains_behind : (b : Bool) (x : ℕ) (xs : List ℕ) (n : ℕ) → Contains xs n → Contains (cond b (x ∷ xs) xs) n
+contains_behind true x xs n c = (suc c.0, omega (arith, c.1), c.2)
+contains_behind false x xs n c = c
+
+-- a list without one number keeps the others
+contains_but : (r : ℕ) (xs : List ℕ) (n k : ℕ) → n ≢ r → k < length xs → get_or xs k n ≡ n → Contains (filter (λ n. not (n == r)) xs) n
+contains_but r [] n k h b e = absurd (omega arith)
+contains_but r (x ∷ xs) n zero h b e =
+    let f : x ≡ n = e in
+    let t : (x == r) ≡ false = ne_eqb x r (λ g. h (sym f ∙ g)) in
+    subst (λ (ns : List ℕ). Contains ns n) (sym (ap (λ (c : Bool). cond (not c) (x ∷ filter (λ n. not (n == r)) xs) (filter (λ n. not (n == r)) xs)) t)) (0, omega arith, f)
+contains_but r (x ∷ xs) n (suc k) h b e = contains_behind (not (x == r)) x (filter (λ n. not (n == r)) xs) n (contains_but r xs n k h (omega arith) e)
+
+pub undriven_adds : (old new : Built) (w : Wire) → Adds old new → IsUndriven old w → IsUndriven new w
+undriven_adds old new w g h = record {
+  register = register_later old new w g.later h.register;
+  waits = subst (λ (ns : List ℕ). Contains ns w.number) (sym g.undriven) h.waits;
+}
+
+contains_front : (xs ys : List ℕ) (n : ℕ) → Contains xs n → Contains (xs ++ ys) n
+contains_front xs ys n c = (c.0, omega (arith, c.1, length-append xs ys), get_or_append_left xs ys n c.0 c.1 ∙ c.2)
+
+pub undriven_opens : (old new : Built) (rs : List ℕ) (w : Wire) → Opens old new rs → IsUndriven old w → IsUndriven new w
+undriven_opens old new rs w g h = record {
+  register = register_later old new w g.later h.register;
+  waits = subst (λ (ns : List ℕ). Contains ns w.number) (sym g.undriven) (contains_front (undriven old) rs w.number h.waits);
+}
+
+pub undriven_drives : (old new : Built) (r : ℕ) (w : Wire) → w.number ≢ r → Drives old new r → IsUndriven old w → IsUndriven new w
+undriven_drives old new r w n g h = record {
+  register = register_later old new w g.later h.register;
+  waits = subst (λ (ns : List ℕ). Contains ns w.number) (sym g.undriven) (contains_but r (undriven old) w.number h.waits.0 n h.waits.1 h.waits.2);
+}
+
+-- a register made later has another number
+pub numbers_differ : (b : Built) (x y : Wire) → IsRegister b x → y.number ≡ length (items b) → x.number ≢ y.number
+numbers_differ b x y h e =
+    let l : x.number < length (items b) = slice_get_within (items b) x.number _ h.at in
+    omega arith

@@ -1,6 +1,6 @@
 -- Wires of a builder that grows.
 use Rattle.std.proofs.Common.{◌≡◌, ℕ, zero, suc, ◌+◌, ◌-◌, ◌*◌, ◌^◌, ◌<◌, ◌≤◌, Bool, true, false, ◌&&◌, cond, List, [], ◌∷◌, ◌++◌, length, take, Option, Some, None, refl, sym, ap, ◌∙◌, subst, arith}
-use Rattle.std.specs.Prelude.{slice_get}
+use Rattle.std.specs.Prelude.{slice_get, Contains}
 use Rattle.std.specs.List.{filter_map}
 use Rattle.std.proofs.lemmas.List.{append-nil, length-map, get_or_push, length_push}
 use Rattle.dip_lists.specs.First.{places}
@@ -13,7 +13,7 @@ use Rattle.net_build.specs.declared.types.Kind.TheVariants.{Input, Register, Gat
 use Rattle.net_build.specs.declared.types.Item.{Item}
 use Rattle.net_build.specs.declared.types.Made.{Made}
 use Rattle.net_build.specs.declared.types.Wire.{Wire}
-use Rattle.net_build.specs.Built.{Built, items, widths_of, wire_widths, inputs, undriven, is_undriven, port_of, IsWire, IsBit, IsRegister}
+use Rattle.net_build.specs.Built.{Built, items, widths_of, wire_widths, inputs, undriven, is_undriven, port_of, IsWire, IsBit, IsRegister, IsUndriven}
 use Rattle.net_build.specs.Values.{Solves, Means, Later, Adds, AddsInput, Opens}
 use Rattle.net_build.specs.Sound.{Makes}
 use Rattle.net_build.proofs.Lists.{get_last}
@@ -91,3 +91,15 @@ made_register old new width w m e =
     let l : length (items old) ≡ length old.made = length-map old.made (λ (m : Made). m.item) in
     let g : slice_get (items new) (length old.made) ≡ Some i = rw (items_made old new i m) (ap (slice_get (items old ++ i ∷ [])) (sym l) ∙ get_last (items old) i) in
     rw e (record { at = g })
+
+contains_last : (xs : List ℕ) (n : ℕ) → Contains (xs ++ n ∷ []) n
+contains_last xs n = (length xs, omega (arith, length_push xs n), get_or_push xs n n (length xs) refl)
+
+pub made_undriven : (old new : Built) (width : ℕ) (w : Wire) → Later old new → Makes old new (record { width = width; kind = Register }) → w ≡ record { number = length old.made; width = width } → IsUndriven new w
+made_undriven old new width w l m e = record {
+  register = made_register old new width w m e;
+  waits = subst (λ (ns : List ℕ). Contains ns w.number) (sym ((register_opens old new width w l m e).undriven)) (contains_last (undriven old) w.number);
+}
+
+pub register_number : (old : Built) (width : ℕ) (w : Wire) → w ≡ record { number = length old.made; width = width } → w.number ≡ length (items old)
+register_number old width w e = ap (λ (w : Wire). w.number) e ∙ sym (length-map old.made (λ (m : Made). m.item))

@@ -1,5 +1,5 @@
 -- A builder, seen from outside.
-use Rattle.std.specs.Prelude.{◌≡◌, ◌≢◌, ℕ, Bool, true, false, ◌&&◌, is_none, List, [], ◌∷◌, ◌++◌, map, All, codes, Option, Some, None, slice_get}
+use Rattle.std.specs.Prelude.{◌≡◌, ◌≢◌, ℕ, Bool, true, false, ◌&&◌, is_none, List, [], ◌∷◌, ◌++◌, map, All, Contains, codes, Option, Some, None, slice_get}
 use Rattle.std.specs.List.{filter_map}
 use Rattle.dip_lists.specs.First.{places}
 use Rattle.net_cells.specs.declared.netlist.Port.{Port}
@@ -70,6 +70,11 @@ pub record IsBit (b : Built) (w : Wire) : Type 0 where
 -- a register of the builder
 pub record IsRegister (b : Built) (w : Wire) : Type 0 where
   pub at : slice_get (items b) w.number ≡ Some (record { width = w.width; kind = Register })
+
+-- a register of the builder that isn't driven yet
+pub record IsUndriven (b : Built) (w : Wire) : Type 0 where
+  pub register : IsRegister b w
+  pub waits : Contains (undriven b) w.number
 
 -- a name that the builder may give to a further port
 pub record IsNewName (b : Built) (name : List ℕ) : Type 0 where

@@ -1,9 +1,9 @@
-ghost use Rattle.std.specs.Prelude.{◌≡◌, ℕ, ◌+◌, ◌-◌, ◌*◌, ◌/◌, ◌%◌, ◌^◌, ◌<◌, ◌≤◌, List, [], ◌∷◌, ◌++◌, length, IfOk, if◌then◌else◌, ◌==◌, nat_lt, bit_and, bit_or, bit_xor, codes, set, get_or, Contains};
+ghost use Rattle.std.specs.Prelude.{◌≡◌, ℕ, ◌+◌, ◌-◌, ◌*◌, ◌/◌, ◌%◌, ◌^◌, ◌<◌, ◌≤◌, List, [], ◌∷◌, ◌++◌, length, IfOk, if◌then◌else◌, ◌==◌, nat_lt, bit_and, bit_or, bit_xor, codes, set, get_or};
 ghost use Rattle.net_cells.specs.Loops.{HasNoLoop};
 ghost use Rattle.net_cells.specs.Rules.{IsCell, IsNamed, IsWellFormed, IsWidth};
 ghost use Rattle.net_build.specs.Numbering.{Carries, Resets, finished};
 ghost use Rattle.net_cells.specs.Values.{op_value};
-ghost use Rattle.net_build.specs.Built.{Built, items, wire_widths, names, undriven, begun, IsWire, IsBit, IsRegister, IsNewName};
+ghost use Rattle.net_build.specs.Built.{Built, items, wire_widths, names, undriven, begun, IsWire, IsBit, IsUndriven, IsNewName};
 ghost use Rattle.net_build.specs.Sound.{Follows, HasNext, IsLowInReset, Makes};
 ghost use Rattle.net_build.specs.Values.{Solves, Ticks, Means, Takes, Becomes, Later, Adds, AddsInput, AddsOutput, Opens, Drives};
 
@@ -108,7 +108,8 @@ impl Builder {
         requires { IsWidth width }
         ensures opens { IfOk result (λ w. Opens self.old self.new (w.number ∷ [])) }
         ensures wire { IfOk result (λ w. IsWire self.new w × (w.width ≡ width)) }
-        ensures kept { IfOk result (λ w. IsRegister self.new w) }
+        ensures undriven { IfOk result (λ w. IsUndriven self.new w) }
+        ensures number { IfOk result (λ w. w.number ≡ length (items self.old)) }
     {
         let wire = self.make(width, Kind::Register)?;
         Ok(wire)
@@ -309,8 +310,7 @@ impl Builder {
 
     /// Puts a wire that is 0 where `reset` is 1 before a register.
     fn put(&mut self, register: Wire, before: Wire)
-        requires register { IsRegister self.old register }
-        requires undriven { Contains (undriven self.old) register.number }
+        requires register { IsUndriven self.old register }
         requires wire { IsWire self.old before × (before.width ≡ register.width) }
         requires low { IsLowInReset self.old before.number }
         ensures drives { Drives self.old self.new register.number }
@@ -321,8 +321,7 @@ impl Builder {
 
     /// Drives a register: after a cycle it holds what `next` was in it, or 0 where `reset` was 1.
     pub fn drive(&mut self, register: Wire, next: Wire) -> Result<(), Memory>
-        requires register { IsRegister self.old register }
-        requires undriven { Contains (undriven self.old) register.number }
+        requires register { IsUndriven self.old register }
         requires next { IsWire self.old next }
         requires width { next.width ≡ register.width }
         ensures drives { IfOk result (λ _. Drives self.old self.new register.number) }

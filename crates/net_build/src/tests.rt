@@ -243,3 +243,20 @@ fn operators_have_their_values(rt: HostRuntime) -> Result<(), Fail> {
     check_operators(&rt, rt.alloc(), 64, &wide)?;
     Ok(())
 }
+
+/// A queue of two items of one bit, in registers.
+#[derive(Clone, Copy)]
+struct Queue {
+    valid: Wire,
+    full: Wire,
+    head: Wire,
+    last: Wire,
+}
+
+/// What is done to the queue in a cycle.
+#[derive(Clone, Copy)]
+struct Step {
+    push: Wire,
+    pop: Wire,
+    item: Wire,
+}
