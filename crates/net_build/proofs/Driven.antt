@@ -1,21 +1,20 @@
 -- A builder in which one more register is driven.
-use Rattle.std.proofs.Common.{◌≡◌, ◌≢◌, ℕ, zero, suc, ◌+◌, ◌<◌, ◌≤◌, ◌⊎◌, inl, inr, Bool, true, false, ◌&&◌, cond, not, List, [], ◌∷◌, ◌++◌, length, map, take, set, get_or, Option, Some, None, is_none, refl, sym, ap, ◌∙◌, subst, arith}
+use Rattle.std.proofs.Common.{◌≡◌, ◌≢◌, ℕ, zero, suc, ◌+◌, ◌<◌, ◌⊎◌, inl, inr, Bool, true, false, ◌&&◌, cond, not, List, [], ◌∷◌, length, take, set, get_or, Option, Some, None, is_none, refl, sym, ap, ◌∙◌, subst, arith}
 use Rattle.std.specs.Prelude.{slice_get, filter, ◌==◌, Contains, option_map}
-use Rattle.std.specs.List.{AllByRecursion, filter_map}
+use Rattle.std.specs.List.{filter_map}
 use Rattle.std.proofs.lemmas.Bool.{cases_eq, eq-eqb, ne_eqb}
-use Rattle.std.proofs.lemmas.List.{take_all, length-map}
+use Rattle.std.proofs.lemmas.List.{take_all}
 use Rattle.std.proofs.lemmas.Option.{slice_get_within, slice_get-map, slice_get_read, get_or_from_slice_get}
 use Rattle.std.proofs.Math.Seq.{map-set_same}
 use Rattle.dip_lists.specs.First.{places}
 use Rattle.net_cells.specs.Rules.{HasWidth}
 use Rattle.net_cells.specs.Values.{op_value}
-use Rattle.net_build.specs.declared.types.Kind.{Kind}
-use Rattle.net_build.specs.declared.types.Kind.TheVariants.{Input, Register, Gate}
+use Rattle.net_build.specs.declared.types.Kind.TheVariants.{Register}
 use Rattle.net_build.specs.declared.types.Item.{Item}
 use Rattle.net_build.specs.declared.types.Made.{Made}
 use Rattle.net_build.specs.declared.types.Wire.{Wire}
-use Rattle.net_build.specs.Built.{Built, items, widths_of, wire_widths, inputs, names, undriven, is_undriven, is_register, port_of, IsWire, IsRegister}
-use Rattle.net_build.specs.Values.{Solves, Ticks, AtStart, Later, Drives}
+use Rattle.net_build.specs.Built.{Built, items, widths_of, wire_widths, inputs, undriven, is_undriven, is_register, port_of, IsWire, IsRegister}
+use Rattle.net_build.specs.Values.{Solves, Later, Drives}
 use Rattle.net_build.specs.Sound.{IsSound, HasNext, IsLowInReset}
 
 pub get_set : {A : Type 0} (xs : List A) (k : ℕ) (x : A) (n : ℕ) (y : A) → slice_get (set xs k x) n ≡ Some y → ((n ≡ k) × (x ≡ y)) ⊎ (slice_get xs n ≡ Some y)

@@ -1,11 +1,10 @@
 -- The netlist of a finished builder: it is well formed, has no loop, and carries each wire's value.
-use Rattle.std.proofs.Common.{◌≡◌, ◌≢◌, ℕ, zero, suc, ◌+◌, ◌^◌, ◌<◌, ◌≤◌, inl, inr, Bool, true, false, ◌&&◌, cond, List, [], ◌∷◌, ◌++◌, length, map, take, drop, get_or, Option, Some, None, is_some, is_none, refl, sym, ap, ◌∙◌, subst, arith}
-use Rattle.std.specs.Prelude.{slice_get, slice_index, count_by, codes, All, AllPairs}
+use Rattle.std.proofs.Common.{◌≡◌, ◌≢◌, ℕ, zero, suc, ◌+◌, ◌^◌, ◌<◌, ◌≤◌, inl, inr, false, ◌&&◌, cond, List, [], ◌∷◌, ◌++◌, length, map, take, Option, Some, None, is_none, refl, sym, ap, ◌∙◌, subst, arith}
+use Rattle.std.specs.Prelude.{slice_get, slice_index, codes, All, AllPairs}
 use Rattle.std.specs.List.{AllByRecursion, filter_map}
 use Rattle.std.proofs.lemmas.List.{length-map, length-take, get_or_past}
 use Rattle.std.proofs.lemmas.List.Elements.{All-map}
 use Rattle.std.proofs.lemmas.List.Kept.{AllPairs-cons}
-use Rattle.std.proofs.lemmas.List.Sums.{sum_by-append}
 use Rattle.std.proofs.lemmas.Option.{slice_get_within, slice_get_cases, slice_get_past, get_or_from_slice_get}
 use Rattle.std.proofs.lemmas.Bool.{cases_lt}
 use Rattle.std.proofs.Math.Path.{fun_ext}
@@ -15,8 +14,8 @@ use Rattle.net_cells.specs.declared.netlist.OutPort.{OutPort}
 use Rattle.net_cells.specs.declared.netlist.Port.{Port}
 use Rattle.net_cells.specs.declared.netlist.Reg.{Reg}
 use Rattle.net_cells.specs.declared.netlist.Netlist.{Netlist}
-use Rattle.net_cells.specs.Rules.{HasWidth, IsCell, IsNamed, IsNet, IsWellFormed, IsWidth, port_names, sources, widths, width_at}
-use Rattle.net_cells.specs.Values.{IsCycle, first_registers, next_registers, op_value}
+use Rattle.net_cells.specs.Rules.{HasWidth, IsCell, IsNamed, IsNet, IsWellFormed, IsWidth, sources, widths, width_at}
+use Rattle.net_cells.specs.Values.{IsCycle, op_value}
 use Rattle.net_cells.specs.Loops.{HasNoLoop, IsPath, Reads, operands}
 use Rattle.net_cells.proofs.Cycles.{many}
 use Rattle.net_cells.proofs.Nets.{sized}
@@ -26,13 +25,13 @@ use Rattle.net_build.specs.declared.types.Kind.TheVariants.{Input, Register, Gat
 use Rattle.net_build.specs.declared.types.Item.{Item}
 use Rattle.net_build.specs.declared.types.Made.{Made}
 use Rattle.net_build.specs.Built.{Built, inputs, is_register, is_undriven, items, names, port_of, port_of_kind, undriven, wire_widths}
-use Rattle.net_build.specs.Values.{AtStart, Solves, Ticks}
+use Rattle.net_build.specs.Values.{Solves}
 use Rattle.net_build.specs.Sound.{Differ, IsSound}
 use Rattle.net_build.specs.Numbering.{AreNets, Resets, Carries, netlist_by, at_wires, cell_of, cell_of_kind, counts_of, finished, is_gate, is_input, net_among, net_at, net_of, next_of, out_of, reg_of, reg_of_kind, renamed}
 use Rattle.net_build.proofs.Cells.{cell_whole}
 use Rattle.net_build.proofs.Lists.{all_weaker}
 use Rattle.net_build.proofs.Places.{all_picked, get_behind, get_mapped, none_passes, picked, placed, count_cons}
-use Rattle.net_build.proofs.Nets.{MappedFrom, inputs_picked, cell_here, gate_test, gates_in, get_has, has_get, input_test, inputs_in, keeps_widths, many_cells, many_inputs, many_regs, many_sources, mapped, net_below, reg_here, reg_test, regs_in}
+use Rattle.net_build.proofs.Nets.{inputs_picked, cell_here, gate_test, gates_in, input_test, inputs_in, keeps_widths, many_cells, many_inputs, many_sources, mapped, net_below, reg_here, reg_test, regs_in}
 use Rattle.net_build.proofs.Renamed.{operands_renamed, rule_renamed, value_renamed}
 
 -- what a wire gives to the netlist

@@ -1,5 +1,5 @@
 -- Folds over wires, one wire further.
-use Rattle.std.proofs.Common.{◌≡◌, ℕ, zero, suc, ◌+◌, ◌-◌, ◌<◌, ◌≤◌, Bool, true, false, ◌||◌, ◌&&◌, not, List, [], ◌∷◌, ◌++◌, length, get_or, take, drop, refl, sym, ap, ◌∙◌, subst, arith, inl, inr, if◌then◌else◌}
+use Rattle.std.proofs.Common.{◌≡◌, ℕ, zero, suc, ◌+◌, ◌<◌, ◌≤◌, Bool, true, false, ◌||◌, ◌&&◌, not, List, [], ◌∷◌, ◌++◌, length, get_or, take, drop, refl, sym, ap, ◌∙◌, subst, arith, inl, inr, if◌then◌else◌}
 use Rattle.std.specs.Prelude.{All, ◌==◌}
 use Rattle.std.specs.List.{list_any}
 use Rattle.std.proofs.lemmas.List.{take_more, get_or_default, get_or_append_left, get_or_push, length_push, drop_more, drop_all}
@@ -75,3 +75,13 @@ choose_more old new picks values place rest k d e w more b l r q a m h = record 
       ∙ ap (λ n. if v (get_or picks place d).number == 1 then v (get_or values place e).number else n) (m.at v (a.later.back v s))
       ∙ sym (ap (λ ps. chosen v ps (drop k values)) p ∙ ap (chosen v (get_or picks place d ∷ drop rest picks)) u);
 }
+
+pub two_bits : (b : Built) (x y : Wire) → IsBit b x → IsBit b y → All (IsBit b) (x ∷ y ∷ [])
+two_bits b x y h k zero d l = h
+two_bits b x y h k (suc zero) d l = k
+two_bits b x y h k (suc (suc n)) d l = absurd (omega arith)
+
+pub two_values : (b : Built) (x y : Wire) → IsBit b x → IsBit b y → HaveOneWidth b (x ∷ y ∷ [])
+two_values b x y h k zero d l = (h.wire, refl)
+two_values b x y h k (suc zero) d l = (k.wire, k.one ∙ sym h.one)
+two_values b x y h k (suc (suc n)) d l = absurd (omega arith)

@@ -1,5 +1,5 @@
 -- A builder with one more wire.
-use Rattle.std.proofs.Common.{◌≡◌, ◌≢◌, ℕ, ◌+◌, ◌^◌, ◌<◌, ◌≤◌, inl, inr, List, [], ◌∷◌, ◌++◌, length, map, take, drop, Option, Some, None, refl, sym, ap, ◌∙◌, subst, arith}
+use Rattle.std.proofs.Common.{◌≡◌, ◌≢◌, ℕ, ◌≤◌, inl, inr, List, [], ◌∷◌, ◌++◌, length, map, take, drop, Some, None, refl, sym, ap, ◌∙◌, subst, arith}
 use Rattle.std.specs.Prelude.{slice_get, codes}
 use Rattle.std.specs.List.{AllByRecursion, filter_map}
 use Rattle.std.proofs.lemmas.List.{map-append, append_assoc, append-nil, take-append-le, take_all, length-map}
@@ -9,17 +9,17 @@ use Rattle.std.proofs.Math.Seq.{take-append_seam}
 use Rattle.net_cells.specs.declared.netlist.CellOp.{CellOp}
 use Rattle.net_cells.specs.declared.netlist.Port.{Port}
 use Rattle.net_cells.specs.declared.netlist.OutPort.{OutPort}
-use Rattle.net_cells.specs.Rules.{HasWidth, IsCell, IsNamed, IsNet, IsWidth}
+use Rattle.net_cells.specs.Rules.{IsCell, IsNamed, IsWidth}
 use Rattle.net_cells.specs.Values.{op_value}
 use Rattle.net_build.specs.declared.types.Kind.{Kind}
 use Rattle.net_build.specs.declared.types.Kind.TheVariants.{Input, Register, Gate}
 use Rattle.net_build.specs.declared.types.Item.{Item}
 use Rattle.net_build.specs.declared.types.Made.{Made}
 use Rattle.net_build.specs.Built.{Built, items, widths_of, wire_widths, inputs, names, port_of}
-use Rattle.net_build.specs.Values.{Solves, Ticks, AtStart, Later}
+use Rattle.net_build.specs.Values.{Solves, Later}
 use Rattle.net_build.specs.Sound.{IsSound, Differ, Follows, Makes}
-use Rattle.net_build.proofs.Lists.{get_last, get_more, get_either, all_more, all_weaker, all_listed, differ_insert}
-use Rattle.net_build.proofs.Cells.{net_more, has_more, cell_more, cell_whole, value_more, fits_front}
+use Rattle.net_build.proofs.Lists.{get_more, get_either, all_more, all_weaker, all_listed, differ_insert}
+use Rattle.net_build.proofs.Cells.{net_more, has_more, cell_whole, value_more, fits_front}
 
 pub items_made : (old new : Built) (i : Item) → Makes old new i → items new ≡ items old ++ i ∷ []
 items_made old new i m = ap (map (λ (m : Made). m.item)) m.made ∙ map-append (λ (m : Made). m.item) old.made (record { item = i; next = None } ∷ [])

@@ -1,22 +1,19 @@
 -- The nets of a builder's wires.
-use Rattle.std.proofs.Common.{◌≡◌, ℕ, zero, suc, ◌+◌, ◌<◌, ◌≤◌, Bool, true, false, cond, List, [], ◌∷◌, ◌++◌, length, map, take, Option, Some, None, is_some, is_none, refl, sym, ap, ◌∙◌, subst, arith, length-append}
-use Rattle.std.specs.Prelude.{slice_get, slice_index, count_by, option_map}
+use Rattle.std.proofs.Common.{◌≡◌, ℕ, zero, suc, ◌+◌, ◌<◌, ◌≤◌, List, [], ◌∷◌, ◌++◌, length, map, take, Option, Some, is_some, refl, sym, ap, ◌∙◌, subst, arith, length-append}
+use Rattle.std.specs.Prelude.{slice_get, count_by}
 use Rattle.std.specs.List.{filter_map}
 use Rattle.std.proofs.lemmas.List.{length-map, take_all}
-use Rattle.std.proofs.lemmas.Option.{slice_get-map, slice_get-get_or, slice_get_within, get_or_from_slice_get}
-use Rattle.net_cells.specs.declared.netlist.CellOp.{CellOp}
+use Rattle.std.proofs.lemmas.Option.{slice_get-get_or, slice_get_within, get_or_from_slice_get}
 use Rattle.net_cells.specs.declared.netlist.Cell.{Cell}
 use Rattle.net_cells.specs.declared.netlist.Port.{Port}
 use Rattle.net_cells.specs.declared.netlist.Reg.{Reg}
-use Rattle.net_cells.specs.declared.netlist.Netlist.{Netlist}
-use Rattle.net_cells.specs.Rules.{HasWidth, sources, widths, width_at}
+use Rattle.net_cells.specs.Rules.{HasWidth, sources, widths}
 use Rattle.net_build.specs.declared.types.Kind.{Kind}
 use Rattle.net_build.specs.declared.types.Kind.TheVariants.{Input, Register, Gate}
 use Rattle.net_build.specs.declared.types.Item.{Item}
 use Rattle.net_build.specs.declared.types.Made.{Made}
-use Rattle.net_build.specs.declared.finish.Counts.{Counts}
 use Rattle.net_build.specs.Built.{Built, items, inputs, is_register, port_of, port_of_kind, wire_widths}
-use Rattle.net_build.specs.Numbering.{cell_of, cell_of_kind, counts_of, finished, is_gate, is_input, net_among, net_at, net_of, reg_of, reg_of_kind, next_of, renamed}
+use Rattle.net_build.specs.Numbering.{cell_of, cell_of_kind, counts_of, finished, is_gate, is_input, net_among, net_at, net_of, reg_of, reg_of_kind}
 use Rattle.net_build.proofs.Lists.{get_more}
 use Rattle.net_build.proofs.Places.{placed, many_picked, count_before, get_mapped, get_behind, picked_mapped}
 use Rattle.net_build.proofs.Renamed.{KeepsWidths}

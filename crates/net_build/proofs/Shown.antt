@@ -1,14 +1,12 @@
 -- A builder with one more output.
-use Rattle.std.proofs.Common.{◌≡◌, ◌≢◌, ℕ, List, [], ◌∷◌, ◌++◌, length, map, take, refl, sym, ap, ◌∙◌, subst, arith}
-use Rattle.std.specs.Prelude.{codes}
+use Rattle.std.proofs.Common.{◌≡◌, ◌≢◌, ℕ, List, [], ◌∷◌, ◌++◌, length, map, refl, sym, ap, ◌∙◌, subst, arith}
 use Rattle.std.proofs.lemmas.List.{map-append, append_assoc, take_all}
 use Rattle.std.proofs.Math.Seq.{take-append_seam}
 use Rattle.net_cells.specs.declared.netlist.OutPort.{OutPort}
 use Rattle.net_cells.specs.declared.netlist.Port.{Port}
-use Rattle.net_cells.specs.Rules.{IsNamed, IsNet}
 use Rattle.net_build.specs.declared.types.Wire.{Wire}
-use Rattle.net_build.specs.Built.{Built, inputs, names, wire_widths, IsNewName, IsWire}
-use Rattle.net_build.specs.Values.{Solves, Later, AddsOutput}
+use Rattle.net_build.specs.Built.{Built, inputs, names, IsNewName, IsWire}
+use Rattle.net_build.specs.Values.{AddsOutput}
 use Rattle.net_build.specs.Sound.{IsSound, Differ}
 use Rattle.net_build.proofs.Lists.{all_more, all_listed, differ_last}
 

@@ -1,13 +1,12 @@
 -- What stays as a builder grows, from one call to the next.
-use Rattle.std.proofs.Common.{◌≡◌, ℕ, ◌^◌, ◌<◌, ◌≤◌, Bool, List, [], ◌∷◌, ◌++◌, length, take, Option, Some, if◌then◌else◌, refl, sym, ap, ◌∙◌, subst, arith}
-use Rattle.std.specs.Prelude.{slice_get, filter, not, ◌==◌, Contains}
+use Rattle.std.proofs.Common.{◌≡◌, ℕ, ◌<◌, Bool, List, [], ◌∷◌, ◌++◌, length, take, if◌then◌else◌, refl, sym, ap, ◌∙◌, subst, arith}
+use Rattle.std.specs.Prelude.{filter, not, ◌==◌, Contains}
 use Rattle.std.proofs.lemmas.List.{get_or_append_left, length-append}
 use Rattle.std.proofs.lemmas.Bool.{ne_eqb}
 use Rattle.std.proofs.lemmas.Option.{slice_get_within}
-use Rattle.std.proofs.Common.{◌≢◌, zero, suc, ◌+◌, false, true, cond, get_or}
-use Rattle.net_cells.specs.Rules.{HasWidth}
+use Rattle.std.proofs.Common.{◌≢◌, zero, suc, false, true, cond, get_or}
 use Rattle.net_build.specs.declared.types.Wire.{Wire}
-use Rattle.net_build.specs.Built.{Built, inputs, IsWire, IsBit, IsRegister, IsUndriven, items, undriven}
+use Rattle.net_build.specs.Built.{Built, IsWire, IsBit, IsRegister, IsUndriven, items, undriven}
 use Rattle.net_build.specs.Values.{Means, Tells, Takes, Becomes, Later, Adds, Drives, Opens}
 use Rattle.net_build.specs.Sound.{HasNext, IsLowInReset}
 

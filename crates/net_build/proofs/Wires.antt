@@ -1,20 +1,20 @@
 -- Wires of a builder that grows.
-use Rattle.std.proofs.Common.{◌≡◌, ℕ, zero, suc, ◌+◌, ◌-◌, ◌*◌, ◌^◌, ◌<◌, ◌≤◌, Bool, true, false, ◌&&◌, cond, List, [], ◌∷◌, ◌++◌, length, take, Option, Some, None, refl, sym, ap, ◌∙◌, subst, arith}
+use Rattle.std.proofs.Common.{◌≡◌, ℕ, ◌+◌, ◌-◌, ◌*◌, ◌^◌, ◌<◌, ◌≤◌, Bool, true, false, cond, List, [], ◌∷◌, ◌++◌, length, Some, None, refl, sym, ap, ◌∙◌, subst, arith}
 use Rattle.std.specs.Prelude.{slice_get, Contains}
 use Rattle.std.specs.List.{filter_map}
 use Rattle.std.proofs.lemmas.List.{append-nil, length-map, get_or_push, length_push}
 use Rattle.dip_lists.specs.First.{places}
 use Rattle.net_cells.specs.declared.netlist.CellOp.{CellOp}
 use Rattle.net_cells.specs.declared.netlist.CellOp.TheVariants.{Concat, Select}
-use Rattle.net_cells.specs.Rules.{HasWidth, HaveOneWidth, IsCell, IsNet, IsWidth, width_at}
+use Rattle.net_cells.specs.Rules.{HasWidth, HaveOneWidth, IsCell, IsWidth, width_at}
 use Rattle.net_cells.specs.Values.{op_value}
 use Rattle.net_build.specs.declared.types.Kind.{Kind}
 use Rattle.net_build.specs.declared.types.Kind.TheVariants.{Input, Register, Gate}
 use Rattle.net_build.specs.declared.types.Item.{Item}
 use Rattle.net_build.specs.declared.types.Made.{Made}
 use Rattle.net_build.specs.declared.types.Wire.{Wire}
-use Rattle.net_build.specs.Built.{Built, items, widths_of, wire_widths, inputs, undriven, is_undriven, port_of, IsWire, IsBit, IsRegister, IsUndriven}
-use Rattle.net_build.specs.Values.{Solves, Means, Later, Adds, AddsInput, Opens}
+use Rattle.net_build.specs.Built.{Built, items, wire_widths, inputs, undriven, is_undriven, port_of, IsWire, IsBit, IsRegister, IsUndriven}
+use Rattle.net_build.specs.Values.{Means, Later, Adds, AddsInput, Opens}
 use Rattle.net_build.specs.Sound.{Makes}
 use Rattle.net_build.proofs.Lists.{get_last}
 use Rattle.net_build.proofs.Grown.{items_made, widths_made, inputs_made}

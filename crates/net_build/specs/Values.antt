@@ -1,5 +1,5 @@
 -- What the wires of a builder may hold, and what a later builder keeps.
-use Rattle.std.specs.Prelude.{◌≡◌, ℕ, ◌^◌, ◌<◌, Bool, false, ◌==◌, not, List, ◌∷◌, [], ◌++◌, length, take, filter, Option, Some, slice_get, if◌then◌else◌}
+use Rattle.std.specs.Prelude.{◌≡◌, ℕ, Bool, false, ◌==◌, not, List, ◌∷◌, [], ◌++◌, length, take, filter, Some, slice_get, if◌then◌else◌}
 use Rattle.net_cells.specs.declared.netlist.CellOp.{CellOp}
 use Rattle.net_cells.specs.declared.netlist.Port.{Port}
 use Rattle.net_cells.specs.declared.netlist.OutPort.{OutPort}
@@ -9,7 +9,7 @@ use Rattle.net_build.specs.declared.types.Kind.TheVariants.{Register, Gate}
 use Rattle.net_build.specs.declared.types.Item.{Item}
 use Rattle.net_build.specs.declared.types.Made.{Made}
 use Rattle.net_build.specs.declared.types.Wire.{Wire}
-use Rattle.net_build.specs.Built.{Built, items, widths_of, wire_widths, inputs, undriven, IsWire}
+use Rattle.net_build.specs.Built.{Built, items, wire_widths, inputs, undriven}
 
 -- Values that the wires may have in one cycle: each has its width, and each operator's equation holds.
 pub record Solves (b : Built) (v : ℕ → ℕ) : Type 0 where

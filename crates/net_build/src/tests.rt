@@ -244,19 +244,59 @@ fn operators_have_their_values(rt: HostRuntime) -> Result<(), Fail> {
     Ok(())
 }
 
-/// A queue of two items of one bit, in registers.
-#[derive(Clone, Copy)]
-struct Queue {
-    valid: Wire,
-    full: Wire,
-    head: Wire,
-    last: Wire,
+/// The folds over two wires of one bit.
+#[tactic(auto, using(crate::proofs::Steps::steps, crate::proofs::Folded::two_bits, crate::proofs::Folded::two_values))]
+fn add_folds(builder: &mut Builder, x: Wire, y: Wire) -> Result<(), Memory>
+    requires { IsBit builder.old x × IsBit builder.old y }
+    ensures adds { IfOk result (λ _. Adds builder.old builder.new) }
+{
+    builder.any(&[x, y])?;
+    builder.first(&[y, x])?;
+    builder.choose(&[x, y], &[y, x])?;
+    Ok(())
 }
 
-/// What is done to the queue in a cycle.
-#[derive(Clone, Copy)]
-struct Step {
-    push: Wire,
-    pop: Wire,
-    item: Wire,
+/// Two wires joined, and taken apart.
+#[tactic(auto, using(crate::proofs::Steps::steps))]
+fn add_parts(builder: &mut Builder, high: Wire, low: Wire) -> Result<(), Memory>
+    requires wires { IsBit builder.old high × IsWire builder.old low }
+    requires width { low.width ≡ 63 }
+    ensures adds { IfOk result (λ _. Adds builder.old builder.new) }
+{
+    let joined = builder.concat(high, low)?;
+    builder.select(joined, 63, 63)?;
+    builder.select(joined, 62, 0)?;
+    Ok(())
+}
+
+/// A netlist of folds and parts over two wires of one bit and one of 63.
+fn parts_and_folds(alloc: Global) -> Result<Netlist, Memory> {
+    let name = Name::new(alloc, "m_t")?.ok_or(Memory)?;
+    let mut builder = Builder::new(alloc, name)?;
+    let x = builder.input(Name::new(alloc, "p_x")?.ok_or(Memory)?, 1)?;
+    let y = builder.input(Name::new(alloc, "p_y")?.ok_or(Memory)?, 1)?;
+    let z = builder.input(Name::new(alloc, "p_z")?.ok_or(Memory)?, 63)?;
+    add_parts(&mut builder, x, z)?;
+    add_folds(&mut builder, x, y)?;
+    builder.finish()
+}
+
+#[test]
+fn parts_and_folds_have_their_values(rt: HostRuntime) -> Result<(), Fail> {
+    let netlist = parts_and_folds(rt.alloc())?;
+    assert!(rt; well_formed(&netlist));
+    let low = (1u64 << 62) + 5;
+    for (x, y, joined, chosen) in [
+        (0, 0, low, 0),
+        (0, 1, low, 0),
+        (1, 0, (1u64 << 63) + low, 0),
+        (1, 1, (1u64 << 63) + low, 1),
+    ] {
+        let values = evaluate(rt.alloc(), &netlist, &[0, x, y, low])?;
+        assert_eq!(rt; at(&values, 4), joined);
+        assert_eq!(rt; at(&values, 5), x);
+        assert_eq!(rt; at(&values, 6), low);
+        assert!(rt; values.last() == Some(&chosen), "at {x} {y}");
+    }
+    Ok(())
 }

@@ -1,7 +1,5 @@
 use Rattle.std.specs.Prelude.{slice_index}
-use Rattle.net_build.specs.declared.types.Made.{Made}
-use Rattle.net_build.specs.Built.{port_of}
-use Rattle.net_build.specs.Numbering.{reg_of, cell_of}
+use Rattle.net_build.specs.Numbering.{cell_of}
 use Rattle.net_build.proofs.Picked.{picked_step}
 use Rattle.net_build.proofs.finish.cells_of.Goals as goal
 

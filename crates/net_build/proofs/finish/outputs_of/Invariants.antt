@@ -1,9 +1,6 @@
-use Rattle.std.proofs.Common.{◌≡◌, ℕ, ◌<◌, length, take, map, get_or}
-use Rattle.std.specs.List.{filter_map}
+use Rattle.std.proofs.Common.{◌≡◌, take, map}
 use Rattle.std.specs.Prelude.{slice_index}
-use Rattle.net_build.specs.declared.types.Made.{Made}
-use Rattle.net_build.specs.Built.{port_of}
-use Rattle.net_build.specs.Numbering.{cell_of, counts_of, net_of, out_of, reg_of}
+use Rattle.net_build.specs.Numbering.{out_of}
 use Rattle.net_build.proofs.finish.outputs_of.Given as goal
 
 abbrev pub invariant-loop-port : goal.invariant-loop-port

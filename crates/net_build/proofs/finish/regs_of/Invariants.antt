@@ -1,9 +1,7 @@
-use Rattle.std.proofs.Common.{◌≡◌, ℕ, ◌<◌, length, take, map, get_or}
+use Rattle.std.proofs.Common.{◌≡◌, take}
 use Rattle.std.specs.List.{filter_map}
 use Rattle.std.specs.Prelude.{slice_index}
-use Rattle.net_build.specs.declared.types.Made.{Made}
-use Rattle.net_build.specs.Built.{port_of}
-use Rattle.net_build.specs.Numbering.{cell_of, counts_of, net_of, out_of, reg_of}
+use Rattle.net_build.specs.Numbering.{reg_of}
 use Rattle.net_build.proofs.finish.regs_of.Given as goal
 
 abbrev pub invariant-loop-wire : goal.invariant-loop-wire

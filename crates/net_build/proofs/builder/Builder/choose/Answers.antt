@@ -1,4 +1,4 @@
-use Rattle.std.proofs.Common.{◌≡◌, ◌+◌, ◌-◌, ◌<◌, ◌∙◌, length, arith}
+use Rattle.std.proofs.Common.{◌+◌, ◌-◌, ◌<◌, ◌∙◌, length, arith}
 use Rattle.net_build.proofs.Folded.{bit_at, choose_more, choose_none, first_width_at, value_at}
 use Rattle.net_build.proofs.Steps.{adds_adds}
 use Rattle.net_build.proofs.builder.Builder.choose.Goals as goal

@@ -1,4 +1,4 @@
-use Rattle.std.proofs.Common.{refl, sym}
+use Rattle.std.proofs.Common.{refl}
 use Rattle.net_build.proofs.Grown.{grown_later, grown_sound}
 use Rattle.net_build.proofs.builder.Builder.make.Goals as goal
 
