@@ -85,3 +85,5 @@ pub two_values : (b : Built) (x y : Wire) → IsBit b x → IsBit b y → HaveOn
 two_values b x y h k zero d l = (h.wire, refl)
 two_values b x y h k (suc zero) d l = (k.wire, k.one ∙ sym h.one)
 two_values b x y h k (suc (suc n)) d l = absurd (omega arith)
+
+pub ruleset pairs = (two_bits, two_values)

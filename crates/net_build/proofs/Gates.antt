@@ -3,6 +3,7 @@ use Rattle.std.proofs.Common.{◌≡◌, ℕ, zero, suc, ◌-◌, ◌^◌, ◌<�
 use Rattle.std.specs.Prelude.{◌==◌, bit_and, bit_or}
 use Rattle.net_build.specs.declared.types.Wire.{Wire}
 use Rattle.net_build.specs.Built.{Built, IsBit}
+use Rattle.net_build.proofs.Steps.{bit_made, bit_wire}
 use Rattle.net_build.specs.Values.{Adds, Means, Solves, Tells, high}
 
 not_two : (n : ℕ) → n < 2 → (2 ^ 1 - 1 - n == 1) ≡ not (n == 1)
@@ -42,3 +43,5 @@ or_tells old new x y w b c g m = record { at = λ v s. ap (λ n. n == 1) (m.at v
 
 pub zero_tells : (b : Built) (w : Wire) → Means b w (λ v. 0) → Tells b w (λ v. false)
 zero_tells b w m = record { at = λ v s. ap (λ n. n == 1) (m.at v s) }
+
+pub ruleset bits = (bit_made, bit_wire, zero_tells)

@@ -103,3 +103,5 @@ made_undriven old new width w l m e = record {
 
 pub register_number : (old : Built) (width : ℕ) (w : Wire) → w ≡ record { number = length old.made; width = width } → w.number ≡ length (items old)
 register_number old width w e = ap (λ (w : Wire). w.number) e ∙ sym (length-map old.made (λ (m : Made). m.item))
+
+pub ruleset gates = (gate_adds, made_wire, gate_means)

@@ -7,7 +7,7 @@ use crate::types::Wire;
 use dip_lists::Memory;
 
 /// 1 where a wire of one bit isn't.
-#[tactic(auto, using(crate::proofs::Gates::not_tells, crate::proofs::Steps::bit_made, crate::proofs::Steps::bit_wire))]
+#[tactic(auto, using(crate::proofs::Gates::bits))]
 pub fn inverse(builder: &mut Builder, x: Wire) -> Result<Wire, Memory>
     requires { IsBit builder.old x }
     ensures adds { IfOk result (λ _. Adds builder.old builder.new) }
@@ -19,7 +19,7 @@ pub fn inverse(builder: &mut Builder, x: Wire) -> Result<Wire, Memory>
 }
 
 /// 1 where two wires of one bit are.
-#[tactic(auto, using(crate::proofs::Gates::and_tells, crate::proofs::Steps::bit_made, crate::proofs::Steps::bit_wire))]
+#[tactic(auto, using(crate::proofs::Gates::bits))]
 pub fn both(builder: &mut Builder, x: Wire, y: Wire) -> Result<Wire, Memory>
     requires { IsBit builder.old x × IsBit builder.old y }
     ensures adds { IfOk result (λ _. Adds builder.old builder.new) }
@@ -31,7 +31,7 @@ pub fn both(builder: &mut Builder, x: Wire, y: Wire) -> Result<Wire, Memory>
 }
 
 /// 1 where one of two wires of one bit is.
-#[tactic(auto, using(crate::proofs::Gates::or_tells, crate::proofs::Steps::bit_made, crate::proofs::Steps::bit_wire))]
+#[tactic(auto, using(crate::proofs::Gates::bits))]
 pub fn either(builder: &mut Builder, x: Wire, y: Wire) -> Result<Wire, Memory>
     requires { IsBit builder.old x × IsBit builder.old y }
     ensures adds { IfOk result (λ _. Adds builder.old builder.new) }
@@ -43,7 +43,7 @@ pub fn either(builder: &mut Builder, x: Wire, y: Wire) -> Result<Wire, Memory>
 }
 
 /// A wire that is always 0.
-#[tactic(auto, using(crate::proofs::Gates::zero_tells, crate::proofs::Steps::bit_made))]
+#[tactic(auto, using(crate::proofs::Gates::bits))]
 pub fn low(builder: &mut Builder) -> Result<Wire, Memory>
     ensures adds { IfOk result (λ _. Adds builder.old builder.new) }
     ensures bit { IfOk result (λ w. IsBit builder.new w) }

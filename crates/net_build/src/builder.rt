@@ -82,7 +82,8 @@ impl Builder {
     pub fn input(&mut self, name: Name, width: u32) -> Result<Wire, Memory>
         requires name { IsNewName self.old name }
         requires width { IsWidth width }
-        ensures adds { IfOk result (λ _. AddsInput self.old self.new (record { name = name; width = width })) }
+        ensures adds { IfOk result
+            (λ _. AddsInput self.old self.new (record { name = name; width = width })) }
         ensures wire { IfOk result (λ w. IsWire self.new w × (w.width ≡ width)) }
     {
         let wire = self.make(width, Kind::Input(name))?;
@@ -93,7 +94,8 @@ impl Builder {
     pub fn output(&mut self, name: Name, wire: Wire) -> Result<(), Memory>
         requires name { IsNewName self.old name }
         requires wire { IsWire self.old wire }
-        ensures adds { IfOk result (λ _. AddsOutput self.old self.new (record { name = name; net = wire.number })) }
+        ensures adds { IfOk result
+            (λ _. AddsOutput self.old self.new (record { name = name; net = wire.number })) }
     {
         self.outputs.push(OutPort {
             name,
@@ -103,7 +105,7 @@ impl Builder {
     }
 
     /// A register. It is 0 in the first cycle, and is to be driven before the builder is finished.
-    #[tactic(auto, using(crate::proofs::Wires::register_opens, crate::proofs::Wires::made_wire, crate::proofs::Wires::made_register))]
+    #[tactic(auto, using(crate::proofs::Wires::made_wire))]
     pub fn register(&mut self, width: u32) -> Result<Wire, Memory>
         requires { IsWidth width }
         ensures opens { IfOk result (λ w. Opens self.old self.new (w.number ∷ [])) }
@@ -116,13 +118,14 @@ impl Builder {
     }
 
     /// Makes a cell.
-    #[tactic(auto, using(crate::proofs::Wires::gate_adds, crate::proofs::Wires::made_wire, crate::proofs::Wires::gate_means))]
+    #[tactic(auto, using(crate::proofs::Wires::gates))]
     fn gate(&mut self, width: u32, op: CellOp) -> Result<Wire, Memory>
         requires width { IsWidth width }
         requires rule { IsCell (wire_widths self.old) width op }
         ensures adds { IfOk result (λ _. Adds self.old self.new) }
         ensures wire { IfOk result (λ w. IsWire self.new w × (w.width ≡ width)) }
-        ensures value { IfOk result (λ w. Means self.new w (λ v. op_value (wire_widths self.new) width op v)) }
+        ensures value { IfOk result
+            (λ w. Means self.new w (λ v. op_value (wire_widths self.new) width op v)) }
     {
         let wire = self.make(width, Kind::Gate(op))?;
         Ok(wire)
@@ -199,7 +202,8 @@ impl Builder {
         requires width { b.width ≡ a.width }
         ensures adds { IfOk result (λ _. Adds self.old self.new) }
         ensures wire { IfOk result (λ w. IsWire self.new w × (w.width ≡ a.width)) }
-        ensures value { IfOk result (λ w. Means self.new w (λ v. (v a.number + 2 ^ a.width - v b.number) % 2 ^ a.width)) }
+        ensures value { IfOk result
+            (λ w. Means self.new w (λ v. (v a.number + 2 ^ a.width - v b.number) % 2 ^ a.width)) }
     {
         self.gate(a.width, CellOp::Sub(a.number, b.number))
     }
@@ -223,7 +227,8 @@ impl Builder {
         requires width { b.width ≡ a.width }
         ensures adds { IfOk result (λ _. Adds self.old self.new) }
         ensures wire { IfOk result (λ w. IsWire self.new w × (w.width ≡ 1)) }
-        ensures value { IfOk result (λ w. Means self.new w (λ v. if nat_lt (v a.number) (v b.number) then 1 else 0)) }
+        ensures value { IfOk result
+            (λ w. Means self.new w (λ v. if nat_lt (v a.number) (v b.number) then 1 else 0)) }
     {
         self.gate(1, CellOp::Less(a.number, b.number))
     }
@@ -236,7 +241,8 @@ impl Builder {
         requires width { no.width ≡ yes.width }
         ensures adds { IfOk result (λ _. Adds self.old self.new) }
         ensures wire { IfOk result (λ w. IsWire self.new w × (w.width ≡ yes.width)) }
-        ensures value { IfOk result (λ w. Means self.new w (λ v. if v pick.number == 1 then v yes.number else v no.number)) }
+        ensures value { IfOk result
+            (λ w. Means self.new w (λ v. if v pick.number == 1 then v yes.number else v no.number)) }
     {
         self.gate(yes.width, CellOp::Mux(pick.number, yes.number, no.number))
     }
@@ -248,7 +254,8 @@ impl Builder {
         requires width { IsWidth (high.width + low.width) }
         ensures adds { IfOk result (λ _. Adds self.old self.new) }
         ensures wire { IfOk result (λ w. IsWire self.new w × (w.width ≡ high.width + low.width)) }
-        ensures value { IfOk result (λ w. Means self.new w (λ v. v high.number * 2 ^ low.width + v low.number)) }
+        ensures value { IfOk result
+            (λ w. Means self.new w (λ v. v high.number * 2 ^ low.width + v low.number)) }
     {
         let wire = self.gate(
             high.width + low.width,
@@ -333,8 +340,8 @@ impl Builder {
         Ok(())
     }
 
-    /// The netlist: its inputs, registers, cells and outputs stand in the order of making, and each wire keeps
-    /// its value.
+    /// The netlist: its inputs, registers, cells and outputs stand in the order of making, and each wire
+    /// keeps its value.
     pub fn finish(self) -> Result<Netlist, Memory>
         requires { undriven self ≡ [] }
         ensures netlist { IfOk result (λ n. n ≡ finished self) }

@@ -215,7 +215,8 @@ pub fn netlist_of(
     made: &[Made],
     outputs: &[OutPort],
 ) -> Result<Netlist, Memory>
-    ensures { IfOk result (λ n. n ≡ finished (record { name = name; made = made.now; outputs = outputs.now })) }
+    ensures { IfOk result
+        (λ n. n ≡ finished (record { name = name; made = made.now; outputs = outputs.now })) }
 {
     let list = nets_of(alloc, made)?;
     let nets = list.as_slice();

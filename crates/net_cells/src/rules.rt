@@ -293,9 +293,9 @@ fn names_differ(netlist: &Netlist) -> bool
     true
 }
 
-/// Whether the rules of well-formed netlists hold: its name, its ports, the number of its nets, their widths, and
-/// what each register, cell and output names. Takes time linear in the size of the netlist, but for the names of
-/// the ports, each of which is compared with all others.
+/// Whether the rules of well-formed netlists hold: its name, its ports, the number of its nets, their
+/// widths, and what each register, cell and output names. Takes time linear in the size of the netlist, but
+/// for the names of the ports, each of which is compared with all others.
 pub fn well_formed(netlist: &Netlist) -> bool
     ensures { IsTrue result ↔ IsWellFormed netlist.now }
 {
