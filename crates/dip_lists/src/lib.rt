@@ -3,12 +3,16 @@
 
 mod duplicate;
 mod few;
+mod first;
 mod items;
 mod memory;
 mod same;
+#[cfg(test)]
+mod tests;
 
 pub use duplicate::{Duplicate, duplicate_items};
 pub use few::Few;
+pub use first::first_failing_law;
 pub use items::Items;
 pub use memory::Memory;
 pub use same::{Same, same_items};

@@ -5,7 +5,8 @@ use Rattle.std.specs.Int.{bit_at}
 use Rattle.std.proofs.lemmas.Nat.Bits.{bit_at_and, bit_at_or, bit_at_xor, bit_at_not, bit_at-lt, bit_at_above, bit_at-zero, same_from_bits}
 use Rattle.std.proofs.Math.Pow.{pow-lt}
 use Rattle.std.proofs.lemmas.Bool.Decides.{Decides-eqb}
-use Rattle.dip_sets.specs.Sets.{Pattern, Overlap}
+use Rattle.dip_sets.specs.Sets.{Pattern, Overlap, Covers, IsCommon, common}
+use Rattle.std.proofs.lemmas.Nat.{xor_lt, or_lt}
 
 below_or_above : (i n : ℕ) → (i < n) ⊎ (n ≤ i)
 below_or_above i n = search rules
@@ -57,7 +58,7 @@ agree : (b1 m1 b2 m2 x : ℕ) → b1 < 2 → m1 < 2 → b2 < 2 → m2 < 2 → (m
 agree b1 m1 b2 m2 x lb1 lm1 lb2 lm2 h1 h2 = grind arith
 
 -- where a number is in both, the bases differ in bits of the masks alone
-overlap_from : (p q : Pattern) → Overlap p q → bit_and (bit_xor p.base q.base) (bit_or p.mask q.mask) ≡ bit_xor p.base q.base
+pub overlap_from : (p q : Pattern) → Overlap p q → bit_and (bit_xor p.base q.base) (bit_or p.mask q.mask) ≡ bit_xor p.base q.base
 overlap_from p q (x, in_p, in_q) = same_from_bits _ _ (λ i. overlap_bit p.base p.mask q.base q.mask i
     ∙ agree (bit_at p.base i) (bit_at p.mask i) (bit_at q.base i) (bit_at q.mask i) (bit_at x i) (bit_at-lt _ i) (bit_at-lt _ i) (bit_at-lt _ i) (bit_at-lt _ i) (in_p i) (in_q i)
     ∙ sym (bit_at_xor p.base q.base i))
@@ -73,6 +74,63 @@ overlaps_is p q ap1 ap2 = (
       in (bit_or p.base q.base, λ i z. bit_at_or p.base q.base i ∙ (each i).0 z, λ i z. bit_at_or p.base q.base i ∙ (each i).1 z),
   overlap_from p q,
 )
+
+-- ---- covers: bases b1 b2, masks m1 m2 of the coverer and of the covered
+
+covered_bit : (b1 m1 b2 m2 x r : ℕ) → b1 < 2 → m1 < 2 → b2 < 2 → m2 < 2 → x < 2 → r ≡ min (max ((b1 + b2) % 2) m2) (1 - m1) → r ≡ 0 → (m2 ≡ 0 → x ≡ b2) → m1 ≡ 0 → x ≡ b1
+covered_bit b1 m1 b2 m2 x r lb1 lm1 lb2 lm2 lx e z h zero_m = grind arith
+
+-- the base alone, and the base with its mask
+uncovered_bit : (b1 m1 b2 m2 : ℕ) → b1 < 2 → m1 < 2 → b2 < 2 → m2 < 2 → min b2 m2 ≡ 0 → (m1 ≡ 0 → b2 ≡ b1) → (m1 ≡ 0 → max b2 m2 ≡ b1) → min (max ((b1 + b2) % 2) m2) (1 - m1) ≡ 0
+uncovered_bit b1 m1 b2 m2 lb1 lm1 lb2 lm2 apart h1 h2 = grind arith
+
+covers_bit : (b1 m1 b2 m2 i : ℕ) → b1 < 2 ^ 48 → m1 < 2 ^ 48 → b2 < 2 ^ 48 → m2 < 2 ^ 48
+    → bit_at (bit_and (bit_or (bit_xor b1 b2) m2) (2 ^ 64 - 1 - m1)) i ≡ min (max ((bit_at b1 i + bit_at b2 i) % 2) (bit_at m2 i)) (1 - bit_at m1 i)
+covers_bit b1 m1 b2 m2 i h1 k1 h2 k2 =
+    let hx : bit_or (bit_xor b1 b2) m2 < 2 ^ 64 = omega (arith, or_lt 48 (bit_xor b1 b2) m2 (xor_lt 48 b1 b2 h1 h2) k2) in
+    let hm : m1 < 2 ^ 64 = omega arith in
+    rw (and_not_bits (bit_or (bit_xor b1 b2) m2) m1 i hx hm, bit_at_or (bit_xor b1 b2) m2 i, bit_at_xor b1 b2 i) refl
+
+max_zero : (n : ℕ) → max n 0 ≡ n
+max_zero n = omega arith
+
+-- what the test of `covers` says
+pub covers_is : (p q : Pattern) → bit_and p.base p.mask ≡ 0 → bit_and q.base q.mask ≡ 0 → p.base < 2 ^ 48 → p.mask < 2 ^ 48 → q.base < 2 ^ 48 → q.mask < 2 ^ 48
+    → (bit_and (bit_or (bit_xor p.base q.base) q.mask) (2 ^ 64 - 1 - p.mask) ≡ 0) ↔ Covers p q
+covers_is p q ap1 ap2 h1 k1 h2 k2 = (
+  λ h x inq i. covered_bit (bit_at p.base i) (bit_at p.mask i) (bit_at q.base i) (bit_at q.mask i) (bit_at x i) _ (bit_at-lt _ i) (bit_at-lt _ i) (bit_at-lt _ i) (bit_at-lt _ i) (bit_at-lt x i)
+      (covers_bit p.base p.mask q.base q.mask i h1 k1 h2 k2) (ap (λ n. bit_at n i) h ∙ bit_at-zero i) (inq i),
+  λ h. same_from_bits _ _ (λ i. covers_bit p.base p.mask q.base q.mask i h1 k1 h2 k2
+      ∙ uncovered_bit (bit_at p.base i) (bit_at p.mask i) (bit_at q.base i) (bit_at q.mask i) (bit_at-lt _ i) (bit_at-lt _ i) (bit_at-lt _ i) (bit_at-lt _ i) (apart_bits _ _ i ap2)
+      (h q.base (λ j z. refl) i)
+      (λ z. sym (bit_at_or q.base q.mask i) ∙ h (bit_or q.base q.mask) (λ j zj. bit_at_or q.base q.mask j ∙ ap (λ m. max (bit_at q.base j) m) zj ∙ max_zero (bit_at q.base j)) i z)
+      ∙ sym (bit_at-zero i)),
+)
+
+-- ---- intersect
+
+meet_bit : (b1 m1 b2 m2 x : ℕ) → b1 < 2 → m1 < 2 → b2 < 2 → m2 < 2 → x < 2 → min b1 m1 ≡ 0 → min b2 m2 ≡ 0
+    → min ((b1 + b2) % 2) (max m1 m2) ≡ (b1 + b2) % 2 → (min m1 m2 ≡ 0 → x ≡ max b1 b2) ↔ ((m1 ≡ 0 → x ≡ b1) × (m2 ≡ 0 → x ≡ b2))
+meet_bit b1 m1 b2 m2 x lb1 lm1 lb2 lm2 lx a1 a2 h = (λ e. (λ z. grind arith, λ z. grind arith), λ e z. grind (arith, e.0, e.1))
+
+-- where two sets overlap, what they have in common
+pub common_is : (p q : Pattern) → bit_and p.base p.mask ≡ 0 → bit_and q.base q.mask ≡ 0 → Overlap p q → IsCommon p q (common p q)
+common_is p q ap1 ap2 (w, inp, inq) x =
+    let each : (i : ℕ) → (min (bit_at p.mask i) (bit_at q.mask i) ≡ 0 → bit_at x i ≡ max (bit_at p.base i) (bit_at q.base i)) ↔ ((bit_at p.mask i ≡ 0 → bit_at x i ≡ bit_at p.base i) × (bit_at q.mask i ≡ 0 → bit_at x i ≡ bit_at q.base i)) =
+    λ i. meet_bit (bit_at p.base i) (bit_at p.mask i) (bit_at q.base i) (bit_at q.mask i) (bit_at x i) (bit_at-lt _ i) (bit_at-lt _ i) (bit_at-lt _ i) (bit_at-lt _ i) (bit_at-lt x i) (apart_bits _ _ i ap1) (apart_bits _ _ i ap2)
+    (agree (bit_at p.base i) (bit_at p.mask i) (bit_at q.base i) (bit_at q.mask i) (bit_at w i) (bit_at-lt _ i) (bit_at-lt _ i) (bit_at-lt _ i) (bit_at-lt _ i) (inp i) (inq i))
+    in (
+      λ h. let back : (i : ℕ) → min (bit_at p.mask i) (bit_at q.mask i) ≡ 0 → bit_at x i ≡ max (bit_at p.base i) (bit_at q.base i) = λ i z. h i (bit_at_and p.mask q.mask i ∙ z) ∙ bit_at_or p.base q.base i in
+          (λ i. ((each i).0 (back i)).0, λ i. ((each i).0 (back i)).1),
+      λ h i z. (each i).1 (h.0 i, h.1 i) (sym (bit_at_and p.mask q.mask i) ∙ z) ∙ sym (bit_at_or p.base q.base i),
+    )
+
+apart_bit : (b1 m1 b2 m2 : ℕ) → min b1 m1 ≡ 0 → min b2 m2 ≡ 0 → min (max b1 b2) (min m1 m2) ≡ 0
+apart_bit b1 m1 b2 m2 a1 a2 = grind arith
+
+pub common_apart : (b1 m1 b2 m2 : ℕ) → bit_and b1 m1 ≡ 0 → bit_and b2 m2 ≡ 0 → bit_and (bit_or b1 b2) (bit_and m1 m2) ≡ 0
+common_apart b1 m1 b2 m2 ap1 ap2 =
+    same_from_bits _ _ (λ i. bit_at_and (bit_or b1 b2) (bit_and m1 m2) i ∙ rw (bit_at_or b1 b2 i, bit_at_and m1 m2 i) (apart_bit (bit_at b1 i) (bit_at m1 i) (bit_at b2 i) (bit_at m2 i) (apart_bits _ _ i ap1) (apart_bits _ _ i ap2)) ∙ sym (bit_at-zero i))
 
 -- ---- alignment
 

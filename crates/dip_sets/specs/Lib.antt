@@ -1,3 +1,7 @@
+pub mod Assignments
+pub mod Differences
+pub mod Ids
 pub mod Names
+pub mod Regions
 pub mod Sets
 pub mod SizeRanges

@@ -1,5 +1,5 @@
 -- Address sets by the numbers in them.
-use Rattle.std.specs.Prelude.{ℕ, ◌≡◌, ◌<◌, ◌^◌, ◌-◌, ◌==◌, Bool, bit_and, bit_or, bit_xor}
+use Rattle.std.specs.Prelude.{ℕ, ◌≡◌, ◌↔◌, ◌<◌, ◌^◌, ◌-◌, ◌==◌, Bool, List, Any, bit_and, bit_or, bit_xor}
 use Rattle.std.specs.Int.{bit_at, trailing_ones, w64}
 
 -- a base and a mask, as bits
@@ -32,6 +32,22 @@ Overlap s t = (x : ℕ) × In s x × In t x
 -- the same as a test: the bases differ in bits of the masks alone
 abbrev pub overlap : Pattern → Pattern → Bool
 overlap s t = bit_and (bit_xor s.base t.base) (bit_or s.mask t.mask) == bit_xor s.base t.base
+
+-- one of the sets holds the number
+abbrev pub InSome : List Pattern → ℕ → Type 0
+InSome sets x = Any (λ s. In s x) sets
+
+-- each number of the one is in the other
+abbrev pub Covers : Pattern → Pattern → Type 0
+Covers s t = (x : ℕ) → In t x → In s x
+
+-- a set has the numbers that two sets have in common
+abbrev pub IsCommon : Pattern → Pattern → Pattern → Type 0
+IsCommon s t both = (x : ℕ) → In both x ↔ (In s x × In t x)
+
+-- the same as a set, where the two overlap
+abbrev pub common : Pattern → Pattern → Pattern
+common s t = record { base = bit_or s.base t.base; mask = bit_and s.mask t.mask }
 
 -- the lowest power of two that isn't a bit of the mask
 abbrev pub IsLowestClear : ℕ → ℕ → Type 0

@@ -1,10 +1,18 @@
 //! Names, address sets, transfer sizes and id ranges.
 #![tactic(auto)]
 
+mod assign;
+mod ids;
 mod name;
+mod region;
 mod set;
 mod sizes;
+#[cfg(test)]
+mod tests;
 
-pub use name::Name;
-pub use set::{AddressSet, BadSet};
+pub use assign::assign_ranges;
+pub use ids::{IdRange, IdRanges};
+pub use name::{Name, is_name};
+pub use region::split_region;
+pub use set::{AddressSet, AddressSets, BadSet};
 pub use sizes::Sizes;

@@ -2,7 +2,7 @@ ghost use Rattle.std.specs.Prelude.{◌≡◌, ◌↔◌, Some, None, if◌then�
 ghost use Rattle.std.specs.List.{list_all};
 ghost use Rattle.dip_sets.specs.Names as names;
 
-use dip_lists::Memory;
+use dip_lists::{Duplicate, Memory, Same};
 use std::alloc::Global;
 use std::marker::Model;
 
@@ -46,10 +46,12 @@ fn has_name_bytes(text: &[u8]) -> bool
     text.iter().all(|byte| is_name_byte(*byte))
 }
 
-fn is_name(text: &[u8]) -> bool
+/// Whether a text has the form of a name.
+pub fn is_name(text: &str) -> bool
     ensures { result ≡ names.is_name text.now }
 {
-    begins_with_letter(text) && text.len() <= 64 && has_name_bytes(text)
+    let bytes = text.as_bytes();
+    begins_with_letter(bytes) && bytes.len() <= 64 && has_name_bytes(bytes)
 }
 
 impl Name {
@@ -57,7 +59,7 @@ impl Name {
     pub fn new(alloc: Global, text: &str) -> Result<Option<Name>, Memory>
         ensures { IfOk result (λ name. name ≡ (if names.is_name text.now then Some text.now else None)) }
     {
-        if !is_name(text.as_bytes()) {
+        if !is_name(text) {
             return Ok(None);
         }
         let text = String::from_str(alloc, text)?;
@@ -93,5 +95,17 @@ impl Name {
         ensures form { IsTrue (names.is_name self.now) }
     {
         self.text.as_str()
+    }
+}
+
+impl Same for Name {
+    fn same(&self, other: &Name) -> bool {
+        self.text.as_bytes() == other.text.as_bytes()
+    }
+}
+
+impl Duplicate for Name {
+    fn duplicate(&self, alloc: Global) -> Result<Name, Memory> {
+        self.copy(alloc)
     }
 }

@@ -1,0 +1,2 @@
+pub mod Disjointness
+pub mod Only

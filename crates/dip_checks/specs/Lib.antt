@@ -1,0 +1,4 @@
+pub mod Edges
+pub mod Ports
+pub mod Checks
+pub mod Apart

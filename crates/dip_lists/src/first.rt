@@ -1,0 +1,9 @@
+ghost use Rattle.dip_lists.specs.FirstLaw.{FirstLaw};
+
+/// What the first failing check means.
+///
+/// Where checks are in the order of their numbers, each with its failing subjects in order, it is a failure
+/// with the lowest number, and of these with the lowest subject. Where there is none, nothing fails.
+pub fn first_failing_law()
+    ensures { FirstLaw }
+{}

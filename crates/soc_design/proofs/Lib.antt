@@ -1,0 +1,4 @@
+pub mod Counting
+pub mod Failing
+pub mod Naming
+pub mod Stating

@@ -1,0 +1,168 @@
+-- A design file: the checks of its bytes in their order, and the design that it states.
+use Rattle.std.specs.Prelude.{ℕ, ◌+◌, List, [], ◌∷◌, ◌++◌, length, take, codes, Bool, ◌&&◌, ◌||◌, not, cond, nat_le, Option, Some, None, is_none, unwrap_or, if◌then◌else◌}
+use Rattle.std.specs.Option.{option_and_then}
+use Rattle.std.specs.Str.{is_utf8}
+use Rattle.toml.specs.Parse.{parse_document}
+use Rattle.toml.specs.Data.{Data, Items, no_items, item, Members}
+use Rattle.dip_lists.specs.First.{Check}
+use Rattle.dip_graph.specs.declared.design.Design.{Design}
+use Rattle.toml_shape.specs.Shapes.{tables_under}
+use Rattle.toml_shape.specs.Numbers.{is_named}
+use Rattle.dip_graph.specs.declared.design.NodeEntry.{NodeEntry}
+use Rattle.dip_graph.specs.declared.design.BindEntry.{BindEntry}
+use Rattle.soc_design.specs.declared.limits.Heading.{Heading}
+use Rattle.soc_design.specs.declared.limits.LimitedFile.{LimitedFile}
+use Rattle.soc_design.specs.Shape.{top_has_shape, module_has_shape, node_has_shape, bind_has_shape}
+use Rattle.soc_design.specs.Stated.{all_of, heading_of, node_of, name_at, names_at, is_in_top, bind_of}
+
+-- ---- entries: the top table is entry 0, then come the modules, the nodes and the binds, each in file order
+
+abbrev pub tables_in : List ℕ → Members → Items
+tables_in key ms = unwrap_or (tables_under key ms) no_items
+
+abbrev pub modules_in : Members → Items
+modules_in = tables_in (codes "module")
+
+abbrev pub nodes_in : Members → Items
+nodes_in = tables_in (codes "node")
+
+abbrev pub binds_in : Members → Items
+binds_in = tables_in (codes "bind")
+
+abbrev pub count : Items → ℕ
+count no_items = 0
+count (item d ds) = 1 + count ds
+
+abbrev pub first_node : Members → ℕ
+first_node ms = 1 + count (modules_in ms)
+
+abbrev pub first_bind : Members → ℕ
+first_bind ms = first_node ms + count (nodes_in ms)
+
+-- entry 0, where something fails there
+abbrev pub at_top : Bool → List ℕ
+at_top fails = cond fails (0 ∷ []) []
+
+-- the entries of the items at which a test fails; the test sees an item's place among its kind and its data
+abbrev pub failing : (ℕ → Data → Bool) → ℕ → ℕ → Items → List ℕ
+failing fails place entry no_items = []
+failing fails place entry (item d ds) = cond (fails place d) (entry ∷ failing fails (place + 1) (entry + 1) ds) (failing fails (place + 1) (entry + 1) ds)
+
+abbrev pub check : ℕ → List ℕ → Check
+check number entries = record { number = number; failing = entries }
+
+-- ---- check 2: the shape
+
+abbrev pub shape_checks : Members → List Check
+shape_checks ms =
+    check 2 (at_top (not (top_has_shape ms)))
+    ∷ check 2 (failing (λ place d. not (module_has_shape d)) 0 1 (modules_in ms))
+    ∷ check 2 (failing (λ place d. not (node_has_shape d)) 0 (first_node ms) (nodes_in ms))
+    ∷ check 2 (failing (λ place d. not (bind_has_shape d)) 0 (first_bind ms) (binds_in ms))
+    ∷ []
+
+-- ---- check 3: the limits
+
+abbrev pub most_nodes : ℕ
+most_nodes = 256
+
+abbrev pub most_binds : ℕ
+most_binds = 1024
+
+-- a file of another version, or without nodes
+abbrev pub top_is_beyond : Members → Bool
+top_is_beyond ms = is_none (heading_of ms) || nat_le (count (nodes_in ms)) 0
+
+-- a table past the allowed number, or one with a number beyond its limits
+abbrev pub node_is_beyond : ℕ → Data → Bool
+node_is_beyond place d = nat_le most_nodes place || is_none (node_of d)
+
+abbrev pub bind_is_beyond : ℕ → Data → Bool
+bind_is_beyond place d = nat_le most_binds place
+
+abbrev pub beyond_nodes : Members → List ℕ
+beyond_nodes ms = failing node_is_beyond 0 (first_node ms) (nodes_in ms)
+
+abbrev pub beyond_binds : Members → List ℕ
+beyond_binds ms = failing bind_is_beyond 0 (first_bind ms) (binds_in ms)
+
+abbrev pub limit_checks : Members → List Check
+limit_checks ms = check 3 (at_top (top_is_beyond ms)) ∷ check 3 (beyond_nodes ms) ∷ check 3 (beyond_binds ms) ∷ []
+
+-- ---- check 4: the names
+
+-- the names of the nodes in file order, and the design's
+abbrev pub node_names : Members → List (List ℕ)
+node_names ms = names_at (nodes_in ms)
+
+abbrev pub heading_name : Option Heading → List ℕ
+heading_name None = []
+heading_name (Some heading) = heading.name
+
+-- a node with an earlier node's name, or in a module that isn't there
+abbrev pub node_is_unnamed : List ℕ → List (List ℕ) → ℕ → Data → Bool
+node_is_unnamed top names place d = is_named (take place names) (name_at d) || not (is_in_top top d)
+
+-- a bind that names a node that isn't there
+abbrev pub bind_is_unnamed : List (List ℕ) → ℕ → Data → Bool
+bind_is_unnamed names place d = is_none (bind_of names d)
+
+abbrev pub unnamed_nodes : List ℕ → ℕ → Items → List ℕ
+unnamed_nodes top entry ds = failing (node_is_unnamed top (names_at ds)) 0 entry ds
+
+abbrev pub unnamed_nodes_in : List ℕ → Members → List ℕ
+unnamed_nodes_in top ms = unnamed_nodes top (first_node ms) (nodes_in ms)
+
+abbrev pub unnamed_binds_in : List (List ℕ) → Members → List ℕ
+unnamed_binds_in names ms = failing (bind_is_unnamed names) 0 (first_bind ms) (binds_in ms)
+
+-- the checks of names in a design of this name
+abbrev pub named_checks : List ℕ → Members → List Check
+named_checks top ms = check 4 (unnamed_nodes_in top ms) ∷ check 4 (unnamed_binds_in (node_names ms) ms) ∷ []
+
+abbrev pub name_checks : Members → List Check
+name_checks ms = named_checks (heading_name (heading_of ms)) ms
+
+-- ---- the file
+
+abbrev pub tree_checks : Members → List Check
+tree_checks ms = shape_checks ms ++ limit_checks ms ++ name_checks ms
+
+abbrev pub most_bytes : ℕ
+most_bytes = 1048576
+
+-- the tree of a text that isn't too long and that `toml` takes
+abbrev pub tree_of : List ℕ → Option Members
+tree_of bytes = if nat_le (length bytes) most_bytes && is_utf8 bytes then parse_document bytes else None
+
+abbrev pub checks_of_tree : Option Members → List Check
+checks_of_tree None = check 1 (0 ∷ []) ∷ []
+checks_of_tree (Some ms) = tree_checks ms
+
+-- the checks 1 to 4 of a file
+abbrev pub file_checks : List ℕ → List Check
+file_checks bytes = checks_of_tree (tree_of bytes)
+
+-- the design with this heading and these nodes and binds; its only module is the top one
+abbrev pub design_with : LimitedFile → List BindEntry → Design
+design_with file binds =
+    record {
+      name = file.heading.name;
+      policy = file.heading.policy;
+      modules = record { name = file.heading.name; parent = 0 } ∷ [];
+      nodes = file.nodes;
+      binds = binds;
+    }
+
+abbrev pub design_from : Option Heading → Option (List NodeEntry) → Option (List BindEntry) → Option Design
+design_from (Some heading) (Some nodes) (Some binds) = Some (design_with (record { heading = heading; nodes = nodes }) binds)
+design_from (Some heading) (Some nodes) None = None
+design_from (Some heading) None binds = None
+design_from None nodes binds = None
+
+-- the design that a tree states
+abbrev pub design_of : Members → Option Design
+design_of ms = design_from (heading_of ms) (all_of node_of (nodes_in ms)) (all_of (bind_of (node_names ms)) (binds_in ms))
+
+abbrev pub stated_design : List ℕ → Option Design
+stated_design bytes = option_and_then design_of (tree_of bytes)

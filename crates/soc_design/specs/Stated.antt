@@ -1,0 +1,190 @@
+-- What the tables of a design file state, where their numbers are within the limits and their names are known.
+use Rattle.std.specs.Prelude.{ℕ, ℤ, ◌-◌, ◌^◌, List, [], ◌∷◌, length, codes, Bool, true, ◌&&◌, ◌||◌, ◌==◌, cond, nat_le, bit_and, Option, Some, None, unwrap_or}
+use Rattle.std.specs.Option.{option_and_then, option_map}
+use Rattle.std.specs.Str.{bytes_eq}
+use Rattle.toml.specs.Data.{Data, array, table, Items, no_items, item, Members, get_member}
+use Rattle.dip_sets.specs.Sets.{Pattern}
+use Rattle.dip_sets.specs.SizeRanges.{SizeRange, is_size_pair}
+use Rattle.tl_params.specs.declared.ops.Ops.{Ops}
+use Rattle.tl_params.specs.declared.ops.Policy.{Policy}
+use Rattle.tl_params.specs.declared.ops.Policy.TheVariants.{Lowest, Round}
+use Rattle.dip_graph.specs.declared.design.NodeKind.{NodeKind}
+use Rattle.dip_graph.specs.declared.design.NodeKind.TheVariants.{Source, Sink}
+use Rattle.dip_graph.specs.declared.design.NodeEntry.{NodeEntry}
+use Rattle.dip_graph.specs.declared.design.BindEntry.{BindEntry}
+use Rattle.toml_shape.specs.Shapes.{integer_of, text_of, pair_of, number_within, table_under, text_under, name_under, number_under}
+use Rattle.toml_shape.specs.Numbers.{number_of}
+use Rattle.soc_design.specs.declared.limits.Heading.{Heading}
+
+-- what each item states, where each states something
+abbrev pub before : {A : Type 0} → Option A → Option (List A) → Option (List A)
+before None rest = None
+before (Some x) rest = option_map (λ xs. x ∷ xs) rest
+
+abbrev pub all_of : {A : Type 0} → (Data → Option A) → Items → Option (List A)
+all_of states no_items = Some []
+all_of states (item d ds) = before (states d) (all_of states ds)
+
+-- a list with so many items
+abbrev pub of_length : {A : Type 0} → ℕ → ℕ → List A → Option (List A)
+of_length least most xs = cond (nat_le least (length xs) && nat_le (length xs) most) (Some xs) None
+
+-- ---- sizes of transfers, in bytes
+
+abbrev pub most_transfer : ℕ
+most_transfer = 256
+
+abbrev pub most_atomic : ℕ
+most_atomic = 8
+
+abbrev pub no_sizes : SizeRange
+no_sizes = record { min = 0; max = 0 }
+
+-- the sizes from a least to a greatest one: powers of two in order
+abbrev pub size_range : ℕ → ℕ → Option SizeRange
+size_range least greatest = cond (is_size_pair least greatest) (Some (record { min = least; max = greatest })) None
+
+abbrev pub sizes_of_pair : ℕ → ℤ × ℤ → Option SizeRange
+sizes_of_pair most p =
+    option_and_then (λ least. option_and_then (λ greatest. size_range least greatest) (number_within 1 most p.1)) (number_within 1 most p.0)
+
+-- the sizes of an operation, none where it is missing
+abbrev pub sizes_of : ℕ → Option Data → Option SizeRange
+sizes_of most None = Some no_sizes
+sizes_of most (Some d) = option_and_then (sizes_of_pair most) (pair_of d)
+
+abbrev pub operations_in : Members → Option Ops
+operations_in ms =
+    option_and_then (λ get. option_and_then (λ put_full. option_and_then (λ put_partial.
+    option_and_then (λ arithmetic. option_and_then (λ logical. option_map (λ intent.
+    record { get = get; put_full = put_full; put_partial = put_partial; arithmetic = arithmetic; logical = logical; intent = intent })
+    (sizes_of most_transfer (get_member (codes "intent") ms)))
+    (sizes_of most_atomic (get_member (codes "logical") ms)))
+    (sizes_of most_atomic (get_member (codes "arithmetic") ms)))
+    (sizes_of most_transfer (get_member (codes "put_partial") ms)))
+    (sizes_of most_transfer (get_member (codes "put_full") ms)))
+    (sizes_of most_transfer (get_member (codes "get") ms))
+
+abbrev pub operations_under : List ℕ → Members → Option Ops
+operations_under key ms = option_and_then operations_in (table_under key ms)
+
+-- ---- addresses
+
+-- a base and a mask below 2^48 without a common bit
+abbrev pub set_of_pair : ℤ × ℤ → Option Pattern
+set_of_pair p =
+    option_and_then (λ base. option_and_then (λ mask. cond (bit_and base mask == 0) (Some (record { base = base; mask = mask })) None)
+    (number_within 0 (2 ^ 48 - 1) p.1)) (number_within 0 (2 ^ 48 - 1) p.0)
+
+abbrev pub set_of : Data → Option Pattern
+set_of d = option_and_then set_of_pair (pair_of d)
+
+-- 1 to 16 sets
+abbrev pub sets_of : Data → Option (List Pattern)
+sets_of (array ds) = option_and_then (of_length 1 16) (all_of set_of ds)
+sets_of d = None
+
+-- 1 to 64 ports
+abbrev pub ports_of : Option Data → Option (List (List Pattern))
+ports_of (Some (array ds)) = option_and_then (of_length 1 64) (all_of sets_of ds)
+ports_of (Some d) = None
+ports_of None = None
+
+-- ---- nodes
+
+-- 1 to 64, 1 where it is missing
+abbrev pub port_count_of : Option Data → Option ℕ
+port_count_of None = Some 1
+port_count_of (Some d) = option_and_then (number_within 1 64) (integer_of d)
+
+abbrev pub port_count_in : Members → Option ℕ
+port_count_in ms = port_count_of (get_member (codes "ports") ms)
+
+abbrev pub source_of : Members → Option NodeKind
+source_of ms =
+    option_and_then (λ ports. option_and_then (λ ids. option_map (λ emits. Source ports ids emits)
+    (operations_under (codes "emits") ms))
+    (number_under (codes "ids") 1 64 ms))
+    (port_count_in ms)
+
+-- a bus of 1, 2, 4 or 8 bytes
+abbrev pub is_beat : ℕ → Bool
+is_beat n = n == 1 || n == 2 || n == 4 || n == 8
+
+abbrev pub beat_of : ℕ → Option ℕ
+beat_of n = cond (is_beat n) (Some n) None
+
+abbrev pub beat_under : List ℕ → Members → Option ℕ
+beat_under key ms = option_and_then beat_of (number_under key 1 8 ms)
+
+abbrev pub sink_of : Members → Option NodeKind
+sink_of ms =
+    option_and_then (λ beat. option_and_then (λ ports. option_map (λ supports. Sink beat ports supports)
+    (operations_under (codes "supports") ms))
+    (ports_of (get_member (codes "addresses") ms)))
+    (beat_under (codes "beat") ms)
+
+abbrev pub named_kind_of : Option (List ℕ) → Members → Option NodeKind
+named_kind_of None ms = None
+named_kind_of (Some kind) ms = cond (bytes_eq kind (codes "source")) (source_of ms) (cond (bytes_eq kind (codes "sink")) (sink_of ms) None)
+
+abbrev pub kind_of : Members → Option NodeKind
+kind_of ms = named_kind_of (text_under (codes "kind") ms) ms
+
+abbrev pub node_of : Data → Option NodeEntry
+node_of (table ms) =
+    option_and_then (λ name. option_map (λ kind. record { name = name; «module» = 0; kind = kind }) (kind_of ms))
+    (name_under (codes "name") ms)
+node_of d = None
+
+-- ---- the top table
+
+abbrev pub policy_named : List ℕ → Option Policy
+policy_named text = cond (bytes_eq text (codes "lowest")) (Some Lowest) (cond (bytes_eq text (codes "round")) (Some Round) None)
+
+-- the lowest input first where it is missing
+abbrev pub policy_of : Option Data → Option Policy
+policy_of None = Some Lowest
+policy_of (Some d) = option_and_then policy_named (text_of d)
+
+abbrev pub policy_in : Members → Option Policy
+policy_in ms = policy_of (get_member (codes "policy") ms)
+
+-- the name and the policy of a file of version 1
+abbrev pub heading_of : Members → Option Heading
+heading_of ms =
+    option_and_then (λ version. option_and_then (λ name. option_map (λ policy. record { name = name; policy = policy })
+    (policy_in ms))
+    (name_under (codes "name") ms))
+    (number_under (codes "version") 1 1 ms)
+
+-- ---- names
+
+-- the name that a node's table has
+abbrev pub name_at : Data → List ℕ
+name_at (table ms) = unwrap_or (name_under (codes "name") ms) []
+name_at d = []
+
+abbrev pub names_at : Items → List (List ℕ)
+names_at no_items = []
+names_at (item d ds) = name_at d ∷ names_at ds
+
+-- the node's module is the top one, which is the only one so far
+abbrev pub is_module : List ℕ → Option (List ℕ) → Bool
+is_module top None = true
+is_module top (Some text) = bytes_eq text top
+
+abbrev pub is_in_top : List ℕ → Data → Bool
+is_in_top top (table ms) = is_module top (text_under (codes "module") ms)
+is_in_top top d = true
+
+-- ---- binds
+
+abbrev pub node_under : List ℕ → List (List ℕ) → Members → Option ℕ
+node_under key names ms = option_and_then (number_of names) (name_under key ms)
+
+-- the numbers of the nodes that a bind names
+abbrev pub bind_of : List (List ℕ) → Data → Option BindEntry
+bind_of names (table ms) =
+    option_and_then (λ to. option_map (λ from. record { to = to; from = from }) (node_under (codes "from") names ms)) (node_under (codes "to") names ms)
+bind_of names d = None

@@ -1,0 +1,210 @@
+ghost use Rattle.std.specs.Prelude.{◌≡◌, ◌+◌, ◌<◌, ◌^◌, length, not};
+ghost use Rattle.toml.specs.Data.{get_member};
+ghost use Rattle.toml.specs.View.{table_view, view, items_view};
+ghost use Rattle.toml_shape.specs.Shapes.{has};
+ghost use Rattle.std.specs.Option.{option_map};
+ghost use Rattle.dip_lists.specs.First.{first, first_failing, failure_of};
+ghost use Rattle.soc_design.specs.Shape as spec;
+ghost use Rattle.soc_design.specs.Reading.{failing, shape_checks};
+
+use crate::tables::{first_bind, first_node, tables_in};
+use toml::{Table, Value};
+use toml_shape::{
+    integer_under, keys_among, may_have_integer, may_have_name, may_have_text, name_under, pair,
+    tables_under, text_under, under,
+};
+
+const TOP_KEYS: [&str; 6] = ["version", "name", "policy", "module", "node", "bind"];
+
+const SOURCE_KEYS: [&str; 6] = ["name", "module", "kind", "ids", "emits", "ports"];
+
+const SINK_KEYS: [&str; 6] = ["name", "module", "kind", "beat", "addresses", "supports"];
+
+const BIND_KEYS: [&str; 3] = ["to", "from", "kind"];
+
+const OPERATION_KEYS: [&str; 6] = [
+    "get",
+    "put_full",
+    "put_partial",
+    "arithmetic",
+    "logical",
+    "intent",
+];
+
+fn are_pairs(items: &[Value]) -> bool
+    ensures { result ≡ spec.are_pairs (items_view items.now) }
+{
+    for item in items {
+        if pair(item).is_none() {
+            return false;
+        }
+    }
+    true
+}
+
+fn is_set_list(value: &Value) -> bool
+    ensures { result ≡ spec.is_set_list (view value.now) }
+{
+    match value {
+        Value::Array(sets) => are_pairs(sets.as_slice()),
+        _ => false,
+    }
+}
+
+fn are_set_lists(items: &[Value]) -> bool
+    ensures { result ≡ spec.are_set_lists (items_view items.now) }
+{
+    for item in items {
+        if !is_set_list(item) {
+            return false;
+        }
+    }
+    true
+}
+
+fn has_port_list(table: &Table, key: &str) -> bool
+    ensures { result ≡ has spec.is_port_list (get_member key.now (table_view table.now)) }
+{
+    match under(table, key) {
+        Some(Value::Array(ports)) => are_set_lists(ports.as_slice()),
+        _ => false,
+    }
+}
+
+fn have_pairs(table: &Table) -> bool
+    ensures { result ≡ spec.have_pairs (table_view table.now) }
+{
+    for (_, value) in table {
+        if pair(value).is_none() {
+            return false;
+        }
+    }
+    true
+}
+
+fn has_operations(table: &Table, key: &str) -> bool
+    ensures { result ≡ has spec.is_operations (get_member key.now (table_view table.now)) }
+{
+    match under(table, key) {
+        Some(Value::Table(operations)) => keys_among(&OPERATION_KEYS, operations)
+            && have_pairs(operations),
+        _ => false,
+    }
+}
+
+fn has_arrays(table: &Table) -> bool
+    ensures { result ≡ spec.has_arrays (table_view table.now) }
+{
+    tables_under(table, "module").is_some()
+        && tables_under(table, "node").is_some()
+        && tables_under(table, "bind").is_some()
+}
+
+fn top_has_shape(table: &Table) -> bool
+    ensures { result ≡ spec.top_has_shape (table_view table.now) }
+{
+    keys_among(&TOP_KEYS, table)
+        && integer_under(table, "version").is_some()
+        && name_under(table, "name").is_some()
+        && may_have_text(table, "policy", &["lowest", "round"])
+        && has_arrays(table)
+}
+
+fn source_has_shape(table: &Table) -> bool
+    ensures { result ≡ spec.source_has_shape (table_view table.now) }
+{
+    keys_among(&SOURCE_KEYS, table)
+        && integer_under(table, "ids").is_some()
+        && has_operations(table, "emits")
+        && may_have_integer(table, "ports")
+}
+
+fn sink_has_shape(table: &Table) -> bool
+    ensures { result ≡ spec.sink_has_shape (table_view table.now) }
+{
+    keys_among(&SINK_KEYS, table)
+        && integer_under(table, "beat").is_some()
+        && has_port_list(table, "addresses")
+        && has_operations(table, "supports")
+}
+
+fn kind_has_shape(table: &Table) -> bool
+    ensures { result ≡ spec.kind_has_shape (table_view table.now) }
+{
+    match text_under(table, "kind") {
+        Some("source") => source_has_shape(table),
+        Some("sink") => sink_has_shape(table),
+        _ => false,
+    }
+}
+
+fn node_has_shape(value: &Value) -> bool
+    ensures { result ≡ spec.node_has_shape (view value.now) }
+{
+    let Value::Table(table) = value else {
+        return false;
+    };
+    name_under(table, "name").is_some() && may_have_name(table, "module") && kind_has_shape(table)
+}
+
+fn bind_has_shape(value: &Value) -> bool
+    ensures { result ≡ spec.bind_has_shape (view value.now) }
+{
+    let Value::Table(table) = value else {
+        return false;
+    };
+    keys_among(&BIND_KEYS, table)
+        && name_under(table, "to").is_some()
+        && name_under(table, "from").is_some()
+        && may_have_text(table, "kind", &[":="])
+}
+
+// Modules aren't served yet, so the first one is the first to fail.
+fn misshapen_module(modules: &[Value]) -> Option<u64>
+    ensures { result ≡ first (failing (λ place d. not (spec.module_has_shape d)) 0 1
+        (items_view modules.now)) }
+{
+    if modules.is_empty() { None } else { Some(1) }
+}
+
+fn misshapen_node(nodes: &[Value], entry: u64) -> Option<u64>
+    requires { entry + length nodes.now < 2 ^ 64 }
+    ensures { result ≡ first (failing (λ place d. not (spec.node_has_shape d)) 0 entry
+        (items_view nodes.now)) }
+{
+    for (place, node) in nodes.iter().enumerate() {
+        if !node_has_shape(node) {
+            return Some(entry + place as u64);
+        }
+    }
+    None
+}
+
+fn misshapen_bind(binds: &[Value], entry: u64) -> Option<u64>
+    requires { entry + length binds.now < 2 ^ 64 }
+    ensures { result ≡ first (failing (λ place d. not (spec.bind_has_shape d)) 0 entry
+        (items_view binds.now)) }
+{
+    for (place, bind) in binds.iter().enumerate() {
+        if !bind_has_shape(bind) {
+            return Some(entry + place as u64);
+        }
+    }
+    None
+}
+
+/// The first entry that hasn't the shape of its table.
+pub fn misshapen_entry(table: &Table) -> Option<u64>
+    ensures { option_map (failure_of 2) result ≡ first_failing (shape_checks (table_view table.now)) }
+{
+    if !top_has_shape(table) {
+        return Some(0);
+    }
+    if let Some(entry) = misshapen_module(tables_in(table, "module")) {
+        return Some(entry);
+    }
+    if let Some(entry) = misshapen_node(tables_in(table, "node"), first_node(table)) {
+        return Some(entry);
+    }
+    misshapen_bind(tables_in(table, "bind"), first_bind(table))
+}

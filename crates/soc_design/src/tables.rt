@@ -1,0 +1,32 @@
+ghost use Rattle.std.specs.Prelude.{◌≡◌, ◌<◌, ◌^◌};
+ghost use Rattle.toml.specs.View.{table_view, items_view};
+ghost use Rattle.soc_design.specs.Reading as spec;
+
+use toml::{Table, Value};
+use toml_shape::tables_under;
+
+/// The tables of the array under a key, none where there is no such array.
+pub fn tables_in<'a>(table: &'a Table, key: &str) -> &'a [Value]
+    ensures { items_view result.now ≡ spec.tables_in key.now (table_view table.now) }
+{
+    match tables_under(table, key) {
+        Some(tables) => tables,
+        None => &[],
+    }
+}
+
+/// The entry of the first node: the top table is entry 0, and the modules stand before.
+pub fn first_node(table: &Table) -> u64
+    ensures value { result ≡ spec.first_node (table_view table.now) }
+    ensures room { result < 2 ^ 61 }
+{
+    1 + tables_in(table, "module").len() as u64
+}
+
+/// The entry of the first bind: the nodes stand before.
+pub fn first_bind(table: &Table) -> u64
+    ensures value { result ≡ spec.first_bind (table_view table.now) }
+    ensures room { result < 2 ^ 62 }
+{
+    first_node(table) + tables_in(table, "node").len() as u64
+}

@@ -1,0 +1,4 @@
+pub mod Words
+pub mod Designs
+pub mod Printing
+pub mod Answers

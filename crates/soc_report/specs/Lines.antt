@@ -1,0 +1,24 @@
+-- The line that each answer prints, and its exit status.
+use Rattle.std.specs.Prelude.{ℕ, List, [], ◌++◌, codes, decimal}
+use Rattle.soc_report.specs.declared.status.Status.{Status}
+use Rattle.soc_report.specs.declared.status.Status.TheVariants.{Done, Refused, Usage, ReadFailed, WriteFailed, Memory}
+
+-- a check that fails at a subject
+abbrev pub refused_line : ℕ → ℕ → List ℕ
+refused_line check subject = codes "refused " ++ decimal check ++ codes " " ++ decimal subject ++ codes "\n"
+
+abbrev pub line_of : Status → List ℕ
+line_of Done = []
+line_of (Refused check subject) = refused_line check subject
+line_of Usage = codes "usage: soc map\n"
+line_of ReadFailed = codes "read failed\n"
+line_of WriteFailed = []
+line_of Memory = []
+
+abbrev pub code_of : Status → ℕ
+code_of Done = 0
+code_of (Refused check subject) = 1
+code_of Usage = 2
+code_of ReadFailed = 3
+code_of WriteFailed = 4
+code_of Memory = 6

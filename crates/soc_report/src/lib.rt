@@ -1,0 +1,14 @@
+//! What the program prints: the line of each answer, and the map of a design.
+#![tactic(auto)]
+
+mod map;
+mod ports;
+mod slaves;
+mod status;
+mod writing;
+
+pub use map::{Bytes, map_text};
+pub use status::{Status, fault_text};
+
+#[cfg(test)]
+mod tests;

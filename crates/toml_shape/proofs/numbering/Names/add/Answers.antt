@@ -1,0 +1,14 @@
+use Rattle.std.proofs.Common.{◌∙◌, ap, ◌++◌, ◌∷◌, [], List, ℕ}
+use Rattle.std.specs.Map.{keys_of}
+use Rattle.toml_shape.specs.Numbers.{texts, is_named}
+use Rattle.indexmap.specs.IndexMap.{keys}
+use Rattle.toml_shape.proofs.Entries.{Entry, added}
+use Rattle.toml_shape.proofs.numbering.Names.add.Goals as goal
+
+pub returns-clause-ok : goal.returns-clause-ok
+returns-clause-ok c =
+    let absent = rw (← c.self.view_is) at c.requires in
+    rw (← c.self.view_is)
+    (ap (λ (es : List Entry). texts (keys_of es)) c.in_ok-insert.ensures.entries
+    ∙ added c.self.inside.numbers.entries c.in_ok-key.key 0 (ap (is_named (texts (keys c.self.inside.numbers))) c.in_ok-key.ensures.ok ∙ absent)
+    ∙ ap (λ (name : List ℕ). texts (keys c.self.inside.numbers) ++ name ∷ []) c.in_ok-key.ensures.ok)

@@ -1,0 +1,62 @@
+ghost use Rattle.std.specs.Prelude.{◌≡◌, [], ◌∷◌, ◌++◌, ◌<◌, length, false, IfSome, OnOk, OnErr};
+ghost use Rattle.toml_shape.specs.Numbers.{is_named, number_of};
+
+use dip_lists::Memory;
+use indexmap::IndexMap;
+use std::alloc::Global;
+use std::marker::Model;
+
+/// Names by their numbers, which contracts see as the list of their bytes. No name stands twice.
+#[derive(Drop)]
+pub struct Names {
+    alloc: Global,
+    numbers: IndexMap<String, u32>,
+}
+
+impl Model for Names {
+    ghost use Rattle.std.specs.Prelude.{List, ℕ};
+    ghost use Rattle.toml_shape.specs.Numbers.{texts};
+    ghost use Rattle.indexmap.specs.IndexMap.{keys};
+
+    ghost Value = { List (List ℕ) };
+
+    ghost view = { λ n. texts (keys n.numbers) };
+}
+
+impl Names {
+    /// No name.
+    pub fn new(alloc: Global) -> Names
+        ensures { result ≡ [] }
+    {
+        Names {
+            alloc,
+            numbers: IndexMap::new(alloc),
+        }
+    }
+
+    /// Whether there is this name.
+    pub fn has(&self, name: &str) -> bool
+        ensures { result ≡ is_named self.now name.now }
+    {
+        self.numbers.contains_key(name)
+    }
+
+    /// The number of a name, counted from 0 in the order of adding.
+    pub fn number_of(&self, name: &str) -> Option<usize>
+        ensures value { result ≡ number_of self.now name.now }
+        ensures within { IfSome result (λ number. number < length self.now) }
+    {
+        self.numbers.get_index_of(name)
+    }
+
+    /// Adds a name that isn't there yet. After `Memory` the names are as before.
+    pub fn add(&mut self, name: &str) -> Result<(), Memory>
+        requires { is_named self.old name.now ≡ false }
+        ensures ok { OnOk result (self.new ≡ self.old ++ name.now ∷ []) }
+        ensures err { OnErr result (self.new ≡ self.old) }
+    {
+        let key = String::from_str(self.alloc, name)?;
+        self.numbers.insert(key, 0)?;
+        Ok(())
+    }
+}
