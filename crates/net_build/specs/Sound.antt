@@ -17,6 +17,8 @@ abbrev pub Differ : List (List ℕ) → Type 0
 Differ [] = Unit {0}
 Differ (x ∷ xs) = AllByRecursion (λ y. x ≢ y) xs × Differ xs
 
+-- Its name and ports have the names that a netlist asks for, wire 0 is the input `reset`, each wire has a width that a net may have,
+-- each operator reads earlier wires by its rule, and what is put before a register has its width and is 0 after a reset.
 pub record IsSound (b : Built) : Type 0 where
   pub name : IsNamed (codes "m_") b.name
   pub reset : slice_get (items b) 0 ≡ Some (record { width = 1; kind = Input (codes "reset") })

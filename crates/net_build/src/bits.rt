@@ -1,4 +1,4 @@
-ghost use Rattle.std.specs.Prelude.{◌≡◌, ℕ, IfOk, false, not, ◌&&◌, ◌||◌};
+ghost use Rattle.std.specs.Prelude.{IfOk, false, not, ◌&&◌, ◌||◌};
 ghost use Rattle.net_build.specs.Built.{IsBit};
 ghost use Rattle.net_build.specs.Values.{Adds, Tells, high};
 

@@ -1,11 +1,11 @@
-ghost use Rattle.std.specs.Prelude.{◌≡◌, ℕ, ◌+◌, ◌-◌, ◌*◌, ◌/◌, ◌%◌, ◌^◌, ◌<◌, ◌≤◌, List, [], ◌∷◌, ◌++◌, length, IfOk, if◌then◌else◌, ◌==◌, nat_lt, bit_and, bit_or, bit_xor, codes, set, get_or};
+ghost use Rattle.std.specs.Prelude.{◌≡◌, ◌+◌, ◌-◌, ◌*◌, ◌/◌, ◌%◌, ◌^◌, ◌<◌, ◌≤◌, [], ◌∷◌, length, IfOk, if◌then◌else◌, ◌==◌, nat_lt, bit_and, bit_or, bit_xor, codes};
 ghost use Rattle.net_cells.specs.Loops.{HasNoLoop};
 ghost use Rattle.net_cells.specs.Rules.{IsCell, IsNamed, IsWellFormed, IsWidth};
 ghost use Rattle.net_build.specs.Numbering.{Carries, Resets, finished};
 ghost use Rattle.net_cells.specs.Values.{op_value};
-ghost use Rattle.net_build.specs.Built.{Built, items, wire_widths, names, undriven, begun, IsWire, IsBit, IsUndriven, IsNewName};
+ghost use Rattle.net_build.specs.Built.{Built, items, wire_widths, undriven, begun, IsWire, IsBit, IsUndriven, IsNewName};
 ghost use Rattle.net_build.specs.Sound.{Follows, HasNext, IsLowInReset, Makes};
-ghost use Rattle.net_build.specs.Values.{Solves, Ticks, Means, Takes, Becomes, Later, Adds, AddsInput, AddsOutput, Opens, Drives};
+ghost use Rattle.net_build.specs.Values.{Means, Takes, Becomes, Later, Adds, AddsInput, AddsOutput, Opens, Drives};
 
 use crate::finish::netlist_of;
 use crate::types::{Item, Kind, Made, Wire};

@@ -1,4 +1,4 @@
-ghost use Rattle.std.specs.Prelude.{◌≡◌, ℕ, ◌+◌, ◌^◌, ◌<◌, IfOk, length, map, slice_index, ◌++◌, []};
+ghost use Rattle.std.specs.Prelude.{◌≡◌, ◌+◌, ◌^◌, ◌<◌, IfOk, map, slice_index, ◌++◌, []};
 ghost use Rattle.std.specs.List.{cons_option, filter_map};
 ghost use Rattle.net_build.specs.declared.types.Made.{Made};
 ghost use Rattle.net_build.specs.Built.{port_of};

@@ -1,4 +1,4 @@
-ghost use Rattle.std.specs.Prelude.{◌≡◌, ℕ, ◌<◌, IfOk, All, not, ◌&&◌, length};
+ghost use Rattle.std.specs.Prelude.{◌≡◌, ◌<◌, IfOk, All, not, ◌&&◌, length};
 ghost use Rattle.std.specs.List.{list_any};
 ghost use Rattle.net_build.specs.Built.{IsBit, IsWire};
 ghost use Rattle.net_build.specs.Folds.{AreFirsts, HaveOneWidth, chosen, first_width};

@@ -1,4 +1,4 @@
-ghost use Rattle.std.specs.Prelude.{◌≡◌, ℕ, ◌^◌, ◌<◌, IfOk};
+ghost use Rattle.std.specs.Prelude.{◌≡◌, ◌^◌, ◌<◌, IfOk};
 ghost use Rattle.net_cells.specs.Rules.{IsWidth};
 ghost use Rattle.net_build.specs.Built.{IsWire, IsBit};
 ghost use Rattle.net_build.specs.Values.{Adds};
