@@ -6,7 +6,7 @@ use Rattle.std.proofs.lemmas.Bool.{cases_eq, eq-eqb, ne_eqb}
 use Rattle.std.proofs.lemmas.List.{take_all}
 use Rattle.std.proofs.lemmas.Option.{slice_get_within, slice_get-map, slice_get_read, get_or_from_slice_get}
 use Rattle.std.proofs.Math.Seq.{map-set_same}
-use Rattle.dip_lists.specs.First.{places}
+use Rattle.net_build.specs.Built.{numbers_where}
 use Rattle.net_cells.specs.Rules.{HasWidth}
 use Rattle.net_cells.specs.Values.{op_value}
 use Rattle.net_build.specs.declared.types.Kind.TheVariants.{Register}
@@ -52,19 +52,19 @@ place_kept true k n ps qs h e = ap (λ (b : Bool). cond (not b) (n ∷ filter (b
 place_kept false k n ps qs h e = e
 
 -- places behind a number are other numbers
-later_places : {A : Type 0} (test : A → Bool) (k from : ℕ) (xs : List A) → k < from → filter (but k) (places test from xs) ≡ places test from xs
+later_places : {A : Type 0} (test : A → Bool) (k from : ℕ) (xs : List A) → k < from → filter (but k) (numbers_where test from xs) ≡ numbers_where test from xs
 later_places test k from [] h = refl
 later_places test k from (x ∷ xs) h = place_kept (test x) k from _ _ (λ e. omega arith) (later_places test k (from + 1) xs (omega arith))
 
-pub places_set : {A : Type 0} (test : A → Bool) (from k : ℕ) (xs : List A) (x : A) → test x ≡ false → k < length xs → places test from (set xs k x) ≡ filter (but (from + k)) (places test from xs)
+pub places_set : {A : Type 0} (test : A → Bool) (from k : ℕ) (xs : List A) (x : A) → test x ≡ false → k < length xs → numbers_where test from (set xs k x) ≡ filter (but (from + k)) (numbers_where test from xs)
 places_set test from k [] x e h = absurd (omega arith)
 places_set test from zero (y ∷ xs) x e h =
     let z : from + zero ≡ from = omega arith in
-    ap (λ (b : Bool). cond b (from ∷ places test (from + 1) xs) (places test (from + 1) xs)) e
-    ∙ sym (ap (λ n. filter (but n) (places test from (y ∷ xs))) z ∙ place_filtered (test y) from (places test (from + 1) xs) (places test (from + 1) xs) (later_places test from (from + 1) xs (omega arith)))
+    ap (λ (b : Bool). cond b (from ∷ numbers_where test (from + 1) xs) (numbers_where test (from + 1) xs)) e
+    ∙ sym (ap (λ n. filter (but n) (numbers_where test from (y ∷ xs))) z ∙ place_filtered (test y) from (numbers_where test (from + 1) xs) (numbers_where test (from + 1) xs) (later_places test from (from + 1) xs (omega arith)))
 places_set test from (suc k) (y ∷ xs) x e h =
     let z : from + 1 + k ≡ from + suc k = omega arith in
-    let r : places test (from + 1) (set xs k x) ≡ filter (but (from + suc k)) (places test (from + 1) xs) = places_set test (from + 1) k xs x e (omega arith) ∙ ap (λ n. filter (but n) (places test (from + 1) xs)) z in
+    let r : numbers_where test (from + 1) (set xs k x) ≡ filter (but (from + suc k)) (numbers_where test (from + 1) xs) = places_set test (from + 1) k xs x e (omega arith) ∙ ap (λ n. filter (but n) (numbers_where test (from + 1) xs)) z in
     sym (place_kept (test y) (from + suc k) from _ _ (λ e. omega arith) (sym r))
 
 -- what stands at a place that passes the test
@@ -80,9 +80,9 @@ place_cases true from n ps zero h e = inl (refl, e)
 place_cases true from n ps (suc k) h e = inr (k, omega arith, e)
 place_cases false from n ps k h e = inr (k, h, e)
 
-pub place_of : {A : Type 0} (test : A → Bool) (from : ℕ) (xs : List A) (n k : ℕ) → k < length (places test from xs) → get_or (places test from xs) k n ≡ n → PlaceOf test from xs n
+pub place_of : {A : Type 0} (test : A → Bool) (from : ℕ) (xs : List A) (n k : ℕ) → k < length (numbers_where test from xs) → get_or (numbers_where test from xs) k n ≡ n → PlaceOf test from xs n
 place_of test from [] n k h e = absurd (omega arith)
-place_of test from (x ∷ xs) n k h e = elim (place_cases (test x) from n (places test (from + 1) xs) k h e) [
+place_of test from (x ∷ xs) n k h e = elim (place_cases (test x) from n (numbers_where test (from + 1) xs) k h e) [
   | inl p ↦ record { place = zero; at = omega (arith, p.1); item = x; is = refl; passes = p.0 }
   | inr q ↦
       let p = place_of test (from + 1) xs n q.0 q.1 q.2 in

@@ -3,7 +3,7 @@ use Rattle.std.proofs.Common.{◌≡◌, ℕ, zero, suc, ◌+◌, ◌<◌, ◌�
 use Rattle.std.specs.Prelude.{slice_get, slice_index_or, count_by, option_map, All}
 use Rattle.std.specs.List.{cons_option, filter_map}
 use Rattle.std.proofs.lemmas.List.Sums.{sum_by-append}
-use Rattle.dip_lists.specs.First.{places}
+use Rattle.net_build.specs.Built.{numbers_where}
 use Rattle.std.proofs.lemmas.Option.{slice_get-map, slice_get-get_or}
 
 skip : {Y : Type 0} (o : Option Y) (b : Bool) (rest : List Y) (c : ℕ) → is_some o ≡ b → slice_get (cons_option o rest) (cond b 1 0 + c) ≡ slice_get rest c
@@ -115,7 +115,7 @@ none_at true n ps e = absurd cc
 none_at false n ps e = (refl, e)
 
 -- no item passes a test that no place passes
-pub none_passes : {A : Type 0} (test : A → Bool) (from : ℕ) (xs : List A) → places test from xs ≡ [] → (k : ℕ) (x : A) → slice_get xs k ≡ Some x → test x ≡ false
+pub none_passes : {A : Type 0} (test : A → Bool) (from : ℕ) (xs : List A) → numbers_where test from xs ≡ [] → (k : ℕ) (x : A) → slice_get xs k ≡ Some x → test x ≡ false
 none_passes test from [] e k x f = absurd cc
-none_passes test from (z ∷ xs) e zero x f = ap test (let q : x ≡ z = cc in q) ∙ (none_at (test z) from (places test (from + 1) xs) e).0
-none_passes test from (z ∷ xs) e (suc k) x f = none_passes test (from + 1) xs (none_at (test z) from (places test (from + 1) xs) e).1 k x f
+none_passes test from (z ∷ xs) e zero x f = ap test (let q : x ≡ z = cc in q) ∙ (none_at (test z) from (numbers_where test (from + 1) xs) e).0
+none_passes test from (z ∷ xs) e (suc k) x f = none_passes test (from + 1) xs (none_at (test z) from (numbers_where test (from + 1) xs) e).1 k x f

@@ -3,7 +3,7 @@ use Rattle.std.proofs.Common.{◌≡◌, ℕ, ◌+◌, ◌-◌, ◌*◌, ◌^◌
 use Rattle.std.specs.Prelude.{slice_get, Contains}
 use Rattle.std.specs.List.{filter_map}
 use Rattle.std.proofs.lemmas.List.{append-nil, length-map, get_or_push, length_push}
-use Rattle.dip_lists.specs.First.{places}
+use Rattle.net_build.specs.Built.{numbers_where}
 use Rattle.net_cells.specs.declared.netlist.CellOp.{CellOp}
 use Rattle.net_cells.specs.declared.netlist.CellOp.TheVariants.{Concat, Select}
 use Rattle.net_cells.specs.Rules.{HasWidth, HaveOneWidth, IsCell, IsWidth, width_at}
@@ -23,10 +23,10 @@ either_more : (b : Bool) (n : ℕ) (ps qs rs : List ℕ) → ps ≡ qs ++ rs →
 either_more true n ps qs rs e = ap (λ x. n ∷ x) e
 either_more false n ps qs rs e = e
 
-pub places_more : {A : Type 0} (test : A → Bool) (from : ℕ) (xs : List A) (x : A) → places test from (xs ++ x ∷ []) ≡ places test from xs ++ cond (test x) ((from + length xs) ∷ []) []
+pub places_more : {A : Type 0} (test : A → Bool) (from : ℕ) (xs : List A) (x : A) → numbers_where test from (xs ++ x ∷ []) ≡ numbers_where test from xs ++ cond (test x) ((from + length xs) ∷ []) []
 places_more test from [] x = ap (λ (n : ℕ). cond (test x) (n ∷ []) []) (omega arith)
 places_more test from (y ∷ xs) x =
-    either_more (test y) from _ _ _ (places_more test (from + 1) xs x ∙ ap (λ (n : ℕ). places test (from + 1) xs ++ cond (test x) (n ∷ []) []) (omega arith))
+    either_more (test y) from _ _ _ (places_more test (from + 1) xs x ∙ ap (λ (n : ℕ). numbers_where test (from + 1) xs ++ cond (test x) (n ∷ []) []) (omega arith))
 
 same_inputs : (old new : Built) (width : ℕ) (k : Kind) → Makes old new (record { width = width; kind = k }) → filter_map port_of (record { width = width; kind = k } ∷ []) ≡ [] → inputs new ≡ inputs old
 same_inputs old new width k m e = inputs_made old new (record { width = width; kind = k }) m ∙ ap (λ ps. inputs old ++ ps) e ∙ append-nil (inputs old)
@@ -36,7 +36,7 @@ gate_adds old new width op l m = record {
   later = l;
   inputs = same_inputs old new width (Gate op) m refl;
   outputs = m.outputs;
-  undriven = ap (places is_undriven 0) m.made ∙ places_more is_undriven 0 old.made (record { item = record { width = width; kind = Gate op }; next = None }) ∙ append-nil (undriven old);
+  undriven = ap (numbers_where is_undriven 0) m.made ∙ places_more is_undriven 0 old.made (record { item = record { width = width; kind = Gate op }; next = None }) ∙ append-nil (undriven old);
 }
 
 pub made_wire : (old new : Built) (i : Item) (w : Wire) → IsWidth i.width → Makes old new i → w ≡ record { number = length old.made; width = i.width } → IsWire new w
@@ -74,7 +74,7 @@ input_adds old new name width l m = record {
   later = l;
   inputs = inputs_made old new (record { width = width; kind = Input name }) m;
   outputs = m.outputs;
-  undriven = ap (places is_undriven 0) m.made ∙ places_more is_undriven 0 old.made (record { item = record { width = width; kind = Input name }; next = None }) ∙ append-nil (undriven old);
+  undriven = ap (numbers_where is_undriven 0) m.made ∙ places_more is_undriven 0 old.made (record { item = record { width = width; kind = Input name }; next = None }) ∙ append-nil (undriven old);
 }
 
 pub register_opens : (old new : Built) (width : ℕ) (w : Wire) → Later old new → Makes old new (record { width = width; kind = Register }) → w ≡ record { number = length old.made; width = width } → Opens old new (w.number ∷ [])
@@ -82,7 +82,7 @@ register_opens old new width w l m e = rw e (record {
   later = l;
   inputs = same_inputs old new width Register m refl;
   outputs = m.outputs;
-  undriven = ap (places is_undriven 0) m.made ∙ places_more is_undriven 0 old.made (record { item = record { width = width; kind = Register }; next = None }) ∙ ap (λ n. undriven old ++ n ∷ []) (omega arith);
+  undriven = ap (numbers_where is_undriven 0) m.made ∙ places_more is_undriven 0 old.made (record { item = record { width = width; kind = Register }; next = None }) ∙ ap (λ n. undriven old ++ n ∷ []) (omega arith);
 })
 
 pub made_register : (old new : Built) (width : ℕ) (w : Wire) → Makes old new (record { width = width; kind = Register }) → w ≡ record { number = length old.made; width = width } → IsRegister new w

@@ -1,7 +1,6 @@
 -- A builder, seen from outside.
-use Rattle.std.specs.Prelude.{◌≡◌, ◌≢◌, ℕ, Bool, true, false, ◌&&◌, is_none, List, [], ◌∷◌, ◌++◌, map, All, Contains, codes, Option, Some, None, slice_get}
+use Rattle.std.specs.Prelude.{◌≡◌, ◌≢◌, ℕ, ◌+◌, Bool, cond, true, false, ◌&&◌, is_none, List, [], ◌∷◌, ◌++◌, map, All, Contains, codes, Option, Some, None, slice_get}
 use Rattle.std.specs.List.{filter_map}
-use Rattle.dip_lists.specs.First.{places}
 use Rattle.net_cells.specs.declared.netlist.Port.{Port}
 use Rattle.net_cells.specs.declared.netlist.OutPort.{OutPort}
 use Rattle.net_cells.specs.Rules.{HasWidth, IsNamed, IsWidth}
@@ -50,12 +49,17 @@ is_register (Input name) = false
 is_register Register = true
 is_register (Gate op) = false
 
+-- the numbers of the items that pass a test, counted from a first number
+abbrev pub numbers_where : {A : Type 0} → (A → Bool) → ℕ → List A → List ℕ
+numbers_where test from [] = []
+numbers_where test from (x ∷ xs) = cond (test x) (from ∷ numbers_where test (from + 1) xs) (numbers_where test (from + 1) xs)
+
 -- the numbers of the registers that aren't driven yet, in the order of making
 abbrev pub is_undriven : Made → Bool
 is_undriven m = is_register m.item.kind && is_none m.next
 
 abbrev pub undriven : Built → List ℕ
-undriven b = places is_undriven 0 b.made
+undriven b = numbers_where is_undriven 0 b.made
 
 -- a wire of the builder
 pub record IsWire (b : Built) (w : Wire) : Type 0 where
