@@ -1,0 +1,14 @@
+pub mod Lists
+pub mod Cells
+pub mod Grown
+pub mod Wires
+pub mod Shown
+pub mod Steps
+pub mod Driven
+pub mod Picked
+pub mod Places
+pub mod Finished
+pub mod Renamed
+pub mod Nets
+pub mod Gates
+pub mod Folded

@@ -1,0 +1,5 @@
+pub mod Built
+pub mod Values
+pub mod Sound
+pub mod Numbering
+pub mod Folds

@@ -1,0 +1,5 @@
+pub mod Nets
+pub mod Names
+pub mod Operators
+pub mod Paths
+pub mod Cycles

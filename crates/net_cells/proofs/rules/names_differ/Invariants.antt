@@ -1,0 +1,7 @@
+use Rattle.std.proofs.Common.{◌≢◌, take}
+use Rattle.std.specs.Prelude.{AllPairs}
+use Rattle.net_cells.specs.Rules.{port_names}
+use Rattle.net_cells.proofs.rules.names_differ.Given as goal
+
+abbrev pub invariant-loop-place : goal.invariant-loop-place
+invariant-loop-place l = AllPairs (λ x y. x ≢ y) (take l.place (port_names l.netlist))

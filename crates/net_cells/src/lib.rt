@@ -1,0 +1,15 @@
+//! Netlists: what they are made of, which are well formed, and what values their nets have.
+#![tactic(auto)]
+
+mod laws;
+mod netlist;
+mod rules;
+
+pub use laws::values_law;
+pub use netlist::{
+    Cell, CellList, CellOp, Netlist, OutPort, OutPorts, Port, Ports, Reg, Regs, WIDTH_LIMIT,
+};
+pub use rules::well_formed;
+
+#[cfg(test)]
+mod tests;

@@ -1,0 +1,312 @@
+ghost use Rattle.std.specs.Prelude.{◌≡◌, ◌↔◌, ◌+◌, ◌-◌, ◌^◌, ◌<◌, ◌≤◌, IsTrue, All, drop, codes, length};
+ghost use Rattle.std.specs.Option.{option_copied};
+ghost use Rattle.std.specs.Prelude.{◌≢◌, AllPairs, Some, slice_get, map, take};
+ghost use Rattle.net_cells.specs.declared.netlist.Port.{Port};
+ghost use Rattle.net_cells.specs.declared.netlist.Reg.{Reg};
+ghost use Rattle.net_cells.specs.declared.netlist.Cell.{Cell};
+ghost use Rattle.net_cells.specs.declared.netlist.OutPort.{OutPort};
+ghost use Rattle.net_cells.specs.Rules.{IsNet, HasWidth, HaveWidth, HaveOneWidth, IsCell, IsNamed, IsWidth, IsWellFormed, IsFirst, port_names, widths};
+
+use crate::netlist::{Cell, CellOp, Netlist, OutPort, Port, Reg, WIDTH_LIMIT};
+use dip_sets::Name;
+
+/// Whether a number has at most so many bits.
+#[tactic(auto, using(crate::proofs::Nets::bits))]
+fn has_bits(value: u64, width: u32) -> bool
+    ensures { IsTrue result ↔ (value < 2 ^ width) }
+{
+    if width >= u64::BITS {
+        return true;
+    }
+    value >> width == 0
+}
+
+fn is_net(netlist: &Netlist, net: u64) -> bool
+    ensures { IsTrue result ↔ IsNet (widths netlist.now) net }
+{
+    netlist.width_of(net).is_some()
+}
+
+fn has_width(netlist: &Netlist, net: u64, width: u32) -> bool
+    ensures { IsTrue result ↔ HasWidth (widths netlist.now) net width }
+{
+    match netlist.width_of(net) {
+        Some(found) => found == width,
+        None => false,
+    }
+}
+
+fn have_width(netlist: &Netlist, x: u64, y: u64, width: u32) -> bool
+    ensures { IsTrue result ↔ HaveWidth (widths netlist.now) x y width }
+{
+    has_width(netlist, x, width) && has_width(netlist, y, width)
+}
+
+fn have_one_width(netlist: &Netlist, x: u64, y: u64) -> bool
+    ensures { IsTrue result ↔ HaveOneWidth (widths netlist.now) x y }
+{
+    match netlist.width_of(x) {
+        Some(width) => has_width(netlist, y, width),
+        None => false,
+    }
+}
+
+fn is_joined(netlist: &Netlist, x: u64, y: u64, width: u32) -> bool
+    ensures { IsTrue result ↔ IsCell (widths netlist.now) width (CellOp.Concat x y) }
+{
+    let (Some(high), Some(low)) = (netlist.width_of(x), netlist.width_of(y)) else {
+        return false;
+    };
+    u64::from(high) + u64::from(low) == u64::from(width)
+}
+
+fn is_part(netlist: &Netlist, net: u64, hi: u32, lo: u32, width: u32) -> bool
+    ensures { IsTrue result
+        ↔ IsCell (widths netlist.now) width (CellOp.Select net hi lo) }
+{
+    match netlist.width_of(net) {
+        Some(found) => hi < found && lo <= hi && width == hi - lo + 1,
+        None => false,
+    }
+}
+
+fn is_cell(netlist: &Netlist, cell: Cell) -> bool
+    ensures { IsTrue result ↔ IsCell (widths netlist.now) cell.width cell.op }
+{
+    let width = cell.width;
+    match cell.op {
+        CellOp::Const(value) => has_bits(value, width),
+        CellOp::Not(x) => has_width(netlist, x, width),
+        CellOp::And(x, y)
+        | CellOp::Or(x, y)
+        | CellOp::Xor(x, y)
+        | CellOp::Add(x, y)
+        | CellOp::Sub(x, y) => have_width(netlist, x, y, width),
+        CellOp::Eq(x, y) | CellOp::Less(x, y) => width == 1 && have_one_width(netlist, x, y),
+        CellOp::Mux(pick, x, y) => has_width(netlist, pick, 1) && have_width(netlist, x, y, width),
+        CellOp::Concat(x, y) => is_joined(netlist, x, y, width),
+        CellOp::Select { net, hi, lo } => is_part(netlist, net, hi, lo, width),
+    }
+}
+
+fn is_width(width: u32) -> bool
+    ensures { IsTrue result ↔ IsWidth width }
+{
+    1 <= width && width <= WIDTH_LIMIT
+}
+
+fn is_port(port: &Port) -> bool
+    ensures { IsTrue result ↔ IsNamed (codes "p_") port.now.name }
+{
+    is_named(&port.name, b"p_")
+}
+
+fn is_out_port(port: &OutPort) -> bool
+    ensures { IsTrue result ↔ IsNamed (codes "p_") port.now.name }
+{
+    is_named(&port.name, b"p_")
+}
+
+/// Whether a name has at least 3 bytes and begins with these.
+fn is_named(name: &Name, front: &[u8]) -> bool
+    ensures { IsTrue result ↔ IsNamed front.now name.now }
+{
+    let bytes = name.bytes();
+    bytes.starts_with(front) && bytes.len() >= 3
+}
+
+fn is_reset(port: &Port) -> bool
+    ensures { IsTrue result ↔ (port.now ≡ record { name = codes "reset"; width = 1 }) }
+{
+    port.width == 1 && port.name.bytes() == b"reset".as_slice()
+}
+
+fn has_reset(inputs: &[Port]) -> bool
+    ensures { IsTrue result
+        ↔ (slice_get inputs.now 0 ≡ Some (record { name = codes "reset"; width = 1 })) }
+{
+    match inputs.first() {
+        Some(port) => is_reset(port),
+        None => false,
+    }
+}
+
+fn has_inputs(inputs: &[Port]) -> bool
+    ensures { IsTrue result
+        ↔ All (λ (p : Port). IsNamed (codes "p_") p.name) (drop 1 inputs.now) }
+{
+    match inputs {
+        [] => true,
+        [_, rest @ ..] => rest.iter().all(is_port),
+    }
+}
+
+fn has_outputs(outputs: &[OutPort]) -> bool
+    ensures { IsTrue result
+        ↔ All (λ (o : OutPort). IsNamed (codes "p_") o.name) outputs.now }
+{
+    outputs.iter().all(is_out_port)
+}
+
+fn has_regs(netlist: &Netlist) -> bool
+    ensures { IsTrue result
+        ↔ All (λ (r : Reg). HasWidth (widths netlist.now) r.next r.width) netlist.now.regs }
+{
+    netlist
+        .regs
+        .as_slice()
+        .iter()
+        .all(|reg| has_width(netlist, reg.next, reg.width))
+}
+
+fn has_cells(netlist: &Netlist) -> bool
+    ensures { IsTrue result
+        ↔ All (λ (c : Cell). IsCell (widths netlist.now) c.width c.op) netlist.now.cells }
+{
+    netlist
+        .cells
+        .as_slice()
+        .iter()
+        .all(|cell| is_cell(netlist, *cell))
+}
+
+fn shows_nets(netlist: &Netlist) -> bool
+    ensures { IsTrue result
+        ↔ All (λ (o : OutPort). IsNet (widths netlist.now) o.net) netlist.now.outputs }
+{
+    netlist
+        .outputs
+        .as_slice()
+        .iter()
+        .all(|port| is_net(netlist, port.net))
+}
+
+fn ports_have_widths(ports: &[Port]) -> bool
+    ensures { IsTrue result ↔ All (λ (p : Port). IsWidth p.width) ports.now }
+{
+    ports.iter().all(|port| is_width(port.width))
+}
+
+fn regs_have_widths(regs: &[Reg]) -> bool
+    ensures { IsTrue result ↔ All (λ (r : Reg). IsWidth r.width) regs.now }
+{
+    regs.iter().all(|reg| is_width(reg.width))
+}
+
+fn cells_have_widths(cells: &[Cell]) -> bool
+    ensures { IsTrue result ↔ All (λ (c : Cell). IsWidth c.width) cells.now }
+{
+    cells.iter().all(|cell| is_width(cell.width))
+}
+
+fn have_widths(netlist: &Netlist) -> bool
+    ensures { IsTrue result ↔ All IsWidth (widths netlist.now) }
+{
+    if !ports_have_widths(netlist.inputs.as_slice()) {
+        return false;
+    }
+    if !regs_have_widths(netlist.regs.as_slice()) {
+        return false;
+    }
+    cells_have_widths(netlist.cells.as_slice())
+}
+
+/// Whether there are fewer than 2^64 nets.
+fn are_few(netlist: &Netlist) -> bool
+    ensures { IsTrue result ↔ (length (widths netlist.now) < 2 ^ 64) }
+{
+    let regs = netlist.regs.len() as u64;
+    let cells = netlist.cells.len() as u64;
+    let sources = (netlist.inputs.len() as u64).checked_add(regs);
+    sources.is_some_and(|sources| sources.checked_add(cells).is_some())
+}
+
+/// The name of a port; the outputs come behind the inputs.
+#[tactic(auto, using(crate::proofs::Nets::places))]
+fn name_at(netlist: &Netlist, place: usize) -> Option<&Name>
+    ensures { option_copied result ≡ slice_get (port_names netlist.now) place }
+{
+    let inputs = netlist.inputs.as_slice();
+    if place < inputs.len() {
+        return input_name(inputs, place);
+    }
+    output_name(netlist.outputs.as_slice(), place - inputs.len())
+}
+
+fn input_name(inputs: &[Port], place: usize) -> Option<&Name>
+    ensures { option_copied result ≡ slice_get (map (λ (p : Port). p.name) inputs.now) place }
+{
+    inputs.get(place).map(|port| &port.name)
+}
+
+fn output_name(outputs: &[OutPort], place: usize) -> Option<&Name>
+    ensures { option_copied result ≡ slice_get (map (λ (o : OutPort). o.name) outputs.now) place }
+{
+    outputs.get(place).map(|port| &port.name)
+}
+
+/// Whether the port at a place has this name.
+fn is_called(netlist: &Netlist, place: usize, name: &Name) -> bool
+    ensures { IsTrue result ↔ (slice_get (port_names netlist.now) place ≡ Some name.now) }
+{
+    match name_at(netlist, place) {
+        Some(found) => found.same(name),
+        None => false,
+    }
+}
+
+/// Whether no port at an earlier place has this name.
+fn is_new(netlist: &Netlist, place: usize, name: &Name) -> bool
+    requires { place ≤ length (port_names netlist.now) }
+    ensures { IsTrue result ↔ All (λ x. x ≢ name.now) (take place (port_names netlist.now)) }
+{
+    for earlier in 0..place {
+        if is_called(netlist, earlier, name) {
+            return false;
+        }
+    }
+    true
+}
+
+/// Whether no port at an earlier place has the name of the port at this one.
+fn is_first(netlist: &Netlist, place: usize) -> bool
+    requires { place < length (port_names netlist.now) }
+    ensures { IsTrue result ↔ IsFirst (port_names netlist.now) place }
+{
+    match name_at(netlist, place) {
+        Some(name) => is_new(netlist, place, name),
+        None => true,
+    }
+}
+
+/// Whether no two ports have one name. It compares each with all before it, since it has no memory.
+fn names_differ(netlist: &Netlist) -> bool
+    ensures { IsTrue result ↔ AllPairs (λ x y. x ≢ y) (port_names netlist.now) }
+{
+    let inputs = netlist.inputs.as_slice();
+    let outputs = netlist.outputs.as_slice();
+    for place in 0..inputs.len() + outputs.len() {
+        if !is_first(netlist, place) {
+            return false;
+        }
+    }
+    true
+}
+
+/// Whether the rules of well-formed netlists hold: its name, its ports, the number of its nets, their
+/// widths, and what each register, cell and output names. Takes time linear in the size of the netlist, but
+/// for the names of the ports, each of which is compared with all others.
+pub fn well_formed(netlist: &Netlist) -> bool
+    ensures { IsTrue result ↔ IsWellFormed netlist.now }
+{
+    is_named(&netlist.name, b"m_")
+        && has_reset(netlist.inputs.as_slice())
+        && has_inputs(netlist.inputs.as_slice())
+        && has_outputs(netlist.outputs.as_slice())
+        && names_differ(netlist)
+        && are_few(netlist)
+        && have_widths(netlist)
+        && has_regs(netlist)
+        && has_cells(netlist)
+        && shows_nets(netlist)
+}
