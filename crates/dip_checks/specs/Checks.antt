@@ -1,7 +1,7 @@
 -- The checks of designs whose sources are bound directly to sinks.
 use Rattle.std.specs.Prelude.{ℕ, ◌+◌, ◌==◌, List, [], ◌∷◌, ◌++◌, length, Bool, true, false, ◌||◌, not, cond, nat_lt, Option, Some, None, slice_get, map}
 use Rattle.std.specs.List.{list_any}
-use Rattle.dip_lists.specs.First.{Check, places}
+use Rattle.dip_lists.specs.First.{Check, check, places}
 use Rattle.dip_sets.specs.Sets.{Pattern, overlap, alignment}
 use Rattle.tl_params.specs.declared.ports.Slave.{Slave}
 use Rattle.tl_params.specs.declared.ports.UpPort.{UpPort}
@@ -13,9 +13,6 @@ use Rattle.dip_graph.specs.declared.design.BindEntry.{BindEntry}
 use Rattle.dip_graph.specs.declared.design.Design.{Design}
 use Rattle.dip_checks.specs.Edges.{outs, ins, edges_of}
 use Rattle.dip_checks.specs.Ports.{kind_at, up_of}
-
-abbrev pub check : ℕ → List ℕ → Check
-check number subjects = record { number = number; failing = subjects }
 
 -- ---- check 6: a bind from a sink or to a source
 

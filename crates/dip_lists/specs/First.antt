@@ -7,6 +7,9 @@ pub record Check : Type 0 where
   pub number : ℕ
   pub failing : List ℕ
 
+abbrev pub check : ℕ → List ℕ → Check
+check number subjects = record { number = number; failing = subjects }
+
 -- a check that fails, and where
 pub record Failure : Type 0 where
   pub number : ℕ
@@ -22,7 +25,7 @@ failure_of number subject = record { number = number; subject = subject }
 -- the first failure of some checks: that of the first check that fails, at the first subject at which it does
 abbrev pub first_failing : List Check → Option Failure
 first_failing [] = None
-first_failing (check ∷ checks) = option_or (option_map (failure_of check.number) (first check.failing)) (first_failing checks)
+first_failing (c ∷ checks) = option_or (option_map (failure_of c.number) (first c.failing)) (first_failing checks)
 
 -- the subjects, counted from a first one, at which a test fails; the test sees a subject's number and the item itself
 abbrev pub places : {A : Type 0} → (ℕ → A → Bool) → ℕ → List A → List ℕ

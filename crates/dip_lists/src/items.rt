@@ -5,6 +5,9 @@ use crate::Memory;
 use std::alloc::Global;
 use std::marker::Model;
 
+/// How many items a list that grows by `push_bounded` has at most.
+pub const MOST_ITEMS: usize = 1_048_576;
+
 /// A list that grows at its end, which contracts see as that list.
 #[derive(Debug, Drop)]
 pub struct Items<T> {
@@ -84,6 +87,18 @@ impl<T: Drop> Items<T> {
     {
         self.items.push(item)?;
         Ok(())
+    }
+
+    /// Adds an item at the end of a list whose length other lists can multiply: with `MOST_ITEMS` items it answers
+    /// `Memory`. After `Memory` the list is as before, and the item is dropped.
+    pub fn push_bounded(&mut self, item: T) -> Result<(), Memory>
+        ensures ok { OnOk result (self.new ≡ self.old ++ item ∷ []) }
+        ensures err { OnErr result (self.new ≡ self.old) }
+    {
+        if self.items.len() >= MOST_ITEMS {
+            return Err(Memory);
+        }
+        self.push(item)
     }
 }
 

@@ -1,4 +1,4 @@
-use crate::{Duplicate, Few, Items, Memory, Same};
+use crate::{Duplicate, Few, Items, MOST_ITEMS, Memory, Same};
 use std::alloc::Global;
 use std::test::Fail;
 
@@ -21,6 +21,18 @@ fn items_past_four(rt: HostRuntime) -> Result<(), Fail> {
     assert!(rt; copy.same(&items) && !copy.is_empty());
     copy.push(7)?;
     assert!(rt; !copy.same(&items));
+    Ok(())
+}
+
+#[test]
+fn bounded_at_its_most(rt: HostRuntime) -> Result<(), Fail> {
+    let mut items = Items::new(rt.alloc());
+    for _ in 1..MOST_ITEMS {
+        items.push(0u8)?;
+    }
+    items.push_bounded(1)?;
+    assert_eq!(rt; items.push_bounded(2), Err(Memory));
+    assert_eq!(rt; items.len(), MOST_ITEMS);
     Ok(())
 }
 

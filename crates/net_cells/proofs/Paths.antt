@@ -8,7 +8,7 @@ use Rattle.net_cells.specs.declared.netlist.Netlist.{Netlist}
 use Rattle.net_cells.specs.Rules.{sources, widths}
 use Rattle.net_cells.specs.Loops.{Reads, IsPath, DependsOn, HasNoLoop}
 
-path_more : (n : Netlist) (a : ℕ) (bs : List ℕ) (b c : ℕ) → IsPath n a bs b → Reads n b c → IsPath n a (bs ++ b ∷ []) c
+pub path_more : (n : Netlist) (a : ℕ) (bs : List ℕ) (b c : ℕ) → IsPath n a bs b → Reads n b c → IsPath n a (bs ++ b ∷ []) c
 path_more n a [] b c p r = (p, r)
 path_more n a (x ∷ xs) b c p r = (p.0, path_more n x xs b c p.1 r)
 

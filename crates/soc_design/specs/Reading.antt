@@ -4,7 +4,7 @@ use Rattle.std.specs.Option.{option_and_then}
 use Rattle.std.specs.Str.{is_utf8}
 use Rattle.toml.specs.Parse.{parse_document}
 use Rattle.toml.specs.Data.{Data, Items, no_items, item, Members}
-use Rattle.dip_lists.specs.First.{Check}
+use Rattle.dip_lists.specs.First.{Check, check}
 use Rattle.dip_graph.specs.declared.design.Design.{Design}
 use Rattle.toml_shape.specs.Shapes.{tables_under}
 use Rattle.toml_shape.specs.Numbers.{is_named}
@@ -47,9 +47,6 @@ at_top fails = cond fails (0 ∷ []) []
 abbrev pub failing : (ℕ → Data → Bool) → ℕ → ℕ → Items → List ℕ
 failing fails place entry no_items = []
 failing fails place entry (item d ds) = cond (fails place d) (entry ∷ failing fails (place + 1) (entry + 1) ds) (failing fails (place + 1) (entry + 1) ds)
-
-abbrev pub check : ℕ → List ℕ → Check
-check number entries = record { number = number; failing = entries }
 
 -- ---- check 2: the shape
 

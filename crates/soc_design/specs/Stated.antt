@@ -4,7 +4,7 @@ use Rattle.std.specs.Option.{option_and_then, option_map}
 use Rattle.std.specs.Str.{bytes_eq}
 use Rattle.toml.specs.Data.{Data, array, table, Items, no_items, item, Members, get_member}
 use Rattle.dip_sets.specs.Sets.{Pattern}
-use Rattle.dip_sets.specs.SizeRanges.{SizeRange, is_size_pair}
+use Rattle.dip_sets.specs.SizeRanges.{SizeRange, size_range, no_sizes, is_size_pair}
 use Rattle.tl_params.specs.declared.ops.Ops.{Ops}
 use Rattle.tl_params.specs.declared.ops.Policy.{Policy}
 use Rattle.tl_params.specs.declared.ops.Policy.TheVariants.{Lowest, Round}
@@ -37,16 +37,13 @@ most_transfer = 256
 abbrev pub most_atomic : ℕ
 most_atomic = 8
 
-abbrev pub no_sizes : SizeRange
-no_sizes = record { min = 0; max = 0 }
-
 -- the sizes from a least to a greatest one: powers of two in order
-abbrev pub size_range : ℕ → ℕ → Option SizeRange
-size_range least greatest = cond (is_size_pair least greatest) (Some (record { min = least; max = greatest })) None
+abbrev pub stated_range : ℕ → ℕ → Option SizeRange
+stated_range least greatest = cond (is_size_pair least greatest) (Some (size_range least greatest)) None
 
 abbrev pub sizes_of_pair : ℕ → ℤ × ℤ → Option SizeRange
 sizes_of_pair most p =
-    option_and_then (λ least. option_and_then (λ greatest. size_range least greatest) (number_within 1 most p.1)) (number_within 1 most p.0)
+    option_and_then (λ least. option_and_then (λ greatest. stated_range least greatest) (number_within 1 most p.1)) (number_within 1 most p.0)
 
 -- the sizes of an operation, none where it is missing
 abbrev pub sizes_of : ℕ → Option Data → Option SizeRange
