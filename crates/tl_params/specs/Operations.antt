@@ -1,9 +1,11 @@
--- The sizes of operations.
-use Rattle.std.specs.Prelude.{ℕ, max}
+-- The sizes of operations, and the templates of nodes.
+use Rattle.std.specs.Prelude.{ℕ, max, Bool, true, false}
 use Rattle.dip_sets.specs.SizeRanges.{SizeRange}
 use Rattle.tl_params.specs.declared.ops.Op.{Op}
 use Rattle.tl_params.specs.declared.ops.Op.TheVariants.{PutFull, PutPartial, Arithmetic, Logical, Get, Intent}
 use Rattle.tl_params.specs.declared.ops.Ops.{Ops}
+use Rattle.tl_params.specs.declared.ops.Template.{Template}
+use Rattle.tl_params.specs.declared.ops.Template.TheVariants.{Buffer, Width, Fragmenter, Shrinker, Xbar}
 
 -- the sizes of one operation
 abbrev pub sizes_of : Ops → Op → SizeRange
@@ -17,3 +19,11 @@ sizes_of ops Intent = ops.intent
 -- the greatest size of any operation, 0 where there is none
 abbrev pub largest : Ops → ℕ
 largest ops = max (max (max ops.get.max (max ops.put_full.max ops.put_partial.max)) (max ops.arithmetic.max ops.logical.max)) ops.intent.max
+
+-- all inputs and outputs of a nexus belong together; those of another node in pairs
+abbrev pub is_nexus : Template → Bool
+is_nexus Buffer = false
+is_nexus Width = false
+is_nexus Fragmenter = false
+is_nexus Shrinker = false
+is_nexus Xbar = true

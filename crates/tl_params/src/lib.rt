@@ -1,10 +1,11 @@
-//! The parameters of TileLink's ports: operations, masters and slaves.
+//! The parameters of TileLink's ports: operations, masters and slaves, and who owns an address.
 #![tactic(auto)]
 
 mod ops;
 mod ports;
 
-pub use ops::{Op, Ops, Policy};
+pub use ops::{Args, Op, Ops, Policy, Template};
 pub use ports::{
     AddressLists, Addresses, DownPort, DownPorts, Master, Masters, Slave, Slaves, UpPort, UpPorts,
+    copy_down, copy_up, largest_end, owner, same_down, same_up,
 };

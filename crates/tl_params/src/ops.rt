@@ -1,6 +1,7 @@
-ghost use Rattle.std.specs.Prelude.{◌≡◌, ◌≤◌};
+ghost use Rattle.std.specs.Prelude.{◌≡◌};
 ghost use Rattle.tl_params.specs.Operations as spec;
 
+use dip_lists::{Items, Same};
 use dip_sets::Sizes;
 
 /// A request of channel A (SiFive TileLink Specification 1.8, chapters 6 and 7).
@@ -50,6 +51,12 @@ impl Ops {
     }
 }
 
+impl Same for Ops {
+    fn same(&self, other: &Ops) -> bool {
+        *self == *other
+    }
+}
+
 /// Which requester a crossbar serves first.
 #[derive(Clone, Copy, Debug, PartialEq, Eq)]
 pub enum Policy {
@@ -58,3 +65,30 @@ pub enum Policy {
     /// Each in turn.
     Round,
 }
+
+/// What is built for a node with a rule.
+#[derive(Clone, Copy, Debug, PartialEq, Eq)]
+pub enum Template {
+    /// Queues on both channels.
+    Buffer,
+    /// Between buses of different widths.
+    Width,
+    /// Cuts large transfers into pieces.
+    Fragmenter,
+    /// Gives many source ids few.
+    Shrinker,
+    /// Joins all of its inputs to all of its outputs; the others join each input to one output.
+    Xbar,
+}
+
+impl Template {
+    /// Whether all inputs and all outputs belong together, and not each input to one output.
+    pub fn is_nexus(&self) -> bool
+        ensures { result ≡ spec.is_nexus self.now }
+    {
+        matches!(*self, Template::Xbar)
+    }
+}
+
+/// The numbers that a design states for a node's rule.
+pub type Args = Items<u32>;

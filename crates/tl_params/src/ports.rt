@@ -1,6 +1,10 @@
+ghost use Rattle.std.specs.Prelude.{◌≡◌, ◌↔◌, IsTrue, IfOk};
+ghost use Rattle.tl_params.specs.Owners as spec;
+
 use crate::Ops;
-use dip_lists::{Few, Items};
+use dip_lists::{Duplicate, Few, Items, Memory, Same};
 use dip_sets::{AddressSet, IdRange};
+use std::alloc::Global;
 
 /// A requester as a port sees it.
 #[derive(Clone, Copy, Debug, PartialEq, Eq)]
@@ -59,3 +63,107 @@ pub struct UpPort {
 
 /// An up port for each edge.
 pub type UpPorts = Items<UpPort>;
+
+impl Same for Master {
+    fn same(&self, other: &Master) -> bool {
+        *self == *other
+    }
+}
+
+impl Same for Slave {
+    fn same(&self, other: &Slave) -> bool {
+        self.node == other.node
+            && self.port == other.port
+            && self.addresses.same(&other.addresses)
+            && self.supports.same(&other.supports)
+    }
+}
+
+impl Duplicate for Slave {
+    fn duplicate(&self, alloc: Global) -> Result<Slave, Memory> {
+        Ok(Slave {
+            node: self.node,
+            port: self.port,
+            addresses: self.addresses.copy(alloc)?,
+            supports: self.supports,
+        })
+    }
+}
+
+/// Whether two down ports have equal masters in the same order.
+pub fn same_down(a: &DownPort, b: &DownPort) -> bool
+    ensures { IsTrue result ↔ (a.now ≡ b.now) }
+{
+    a.masters.same(&b.masters)
+}
+
+/// Whether two up ports have equal slaves in the same order, and buses of the same width.
+pub fn same_up(a: &UpPort, b: &UpPort) -> bool
+    ensures { IsTrue result ↔ (a.now ≡ b.now) }
+{
+    a.beat == b.beat && a.slaves.same(&b.slaves)
+}
+
+/// An equal down port in memory of its own.
+pub fn copy_down(alloc: Global, port: &DownPort) -> Result<DownPort, Memory>
+    ensures { IfOk result (λ copy. copy ≡ port.now) }
+{
+    let masters = port.masters.copy(alloc)?;
+    Ok(DownPort { masters })
+}
+
+/// An equal up port in memory of its own.
+pub fn copy_up(alloc: Global, port: &UpPort) -> Result<UpPort, Memory>
+    ensures { IfOk result (λ copy. copy ≡ port.now) }
+{
+    let slaves = port.slaves.duplicate(alloc)?;
+    Ok(UpPort {
+        slaves,
+        beat: port.beat,
+    })
+}
+
+impl Duplicate for DownPort {
+    fn duplicate(&self, alloc: Global) -> Result<DownPort, Memory> {
+        copy_down(alloc, self)
+    }
+}
+
+impl Duplicate for UpPort {
+    fn duplicate(&self, alloc: Global) -> Result<UpPort, Memory> {
+        copy_up(alloc, self)
+    }
+}
+
+/// The greatest end of the masters' id ranges: one more than the greatest id. 0 where there is no master.
+pub fn largest_end(port: &DownPort) -> u32
+    ensures { result ≡ spec.largest_end port.now.masters }
+{
+    let mut largest = 0;
+    for master in port.masters.as_slice() {
+        largest = largest.max(master.ids.end);
+    }
+    largest
+}
+
+fn holds(slave: &Slave, address: u64) -> bool
+    ensures { result ≡ spec.holds slave.now address }
+{
+    slave
+        .addresses
+        .as_slice()
+        .iter()
+        .any(|set| set.contains(address))
+}
+
+/// The place of the first slave one of whose sets holds the address; `None` exactly where none does.
+pub fn owner(port: &UpPort, address: u64) -> Option<usize>
+    ensures { result ≡ spec.owner port.now.slaves address }
+{
+    for (place, slave) in port.slaves.as_slice().iter().enumerate() {
+        if holds(slave, address) {
+            return Some(place);
+        }
+    }
+    None
+}

@@ -1,0 +1,23 @@
+-- Who answers an address, and which ids a port's masters have.
+use Rattle.std.specs.Prelude.{ℕ, ◌+◌, List, [], ◌∷◌, Bool, cond, max, Option, Some, None}
+use Rattle.std.specs.List.{list_any}
+use Rattle.dip_sets.specs.Sets.{is_in}
+use Rattle.tl_params.specs.declared.ports.Master.{Master}
+use Rattle.tl_params.specs.declared.ports.Slave.{Slave}
+
+-- one of the slave's sets holds the address
+abbrev pub holds : Slave → ℕ → Bool
+holds slave address = list_any (λ s. is_in s address) slave.addresses
+
+-- the place, counted from a first one, of the first slave that holds the address
+abbrev pub owner_from : ℕ → List Slave → ℕ → Option ℕ
+owner_from place [] address = None
+owner_from place (slave ∷ slaves) address = cond (holds slave address) (Some place) (owner_from (place + 1) slaves address)
+
+abbrev pub owner : List Slave → ℕ → Option ℕ
+owner slaves address = owner_from 0 slaves address
+
+-- the greatest end of the masters' id ranges, 0 where there is none
+abbrev pub largest_end : List Master → ℕ
+largest_end [] = 0
+largest_end (master ∷ masters) = max master.ids.end (largest_end masters)
