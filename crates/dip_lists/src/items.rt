@@ -89,7 +89,7 @@ impl<T: Drop> Items<T> {
         Ok(())
     }
 
-    /// Adds an item at the end of a list whose length other lists can multiply: with `MOST_ITEMS` items it answers
+    /// Adds an item at the end of a list that a small file can make long: with `MOST_ITEMS` items it answers
     /// `Memory`. After `Memory` the list is as before, and the item is dropped.
     pub fn push_bounded(&mut self, item: T) -> Result<(), Memory>
         ensures ok { OnOk result (self.new ≡ self.old ++ item ∷ []) }
