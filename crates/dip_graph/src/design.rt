@@ -1,6 +1,6 @@
 use dip_lists::Items;
 use dip_sets::Name;
-use tl_params::{AddressLists, Ops, Policy};
+use tl_params::{AddressLists, Args, Ops, Policy};
 
 /// A module, which holds nodes and other modules.
 #[derive(Debug, Drop)]
@@ -28,6 +28,11 @@ pub enum NodeKind {
         ports: AddressLists,
         supports: Ops,
     },
+    /// A node whose ports are what the rule of a kind answers, with these arguments.
+    Ruled {
+        kind: Name,
+        args: Args,
+    },
 }
 
 /// A node of a design.
@@ -42,11 +47,23 @@ pub struct NodeEntry {
 /// Nodes by their numbers, in file order.
 pub type Nodes = Items<NodeEntry>;
 
+/// How many edges a bind makes.
+#[derive(Clone, Copy, Debug, PartialEq, Eq)]
+pub enum Star {
+    /// `:=`, one.
+    One,
+    /// `:=*`, as many as the node `from` has left.
+    FromStar,
+    /// `:*=`, as many as the node `to` has left.
+    ToStar,
+}
+
 /// A bind `to := from`: requests go from the node `from` to the node `to`.
 #[derive(Clone, Copy, Debug, PartialEq, Eq)]
 pub struct BindEntry {
     pub to: u32,
     pub from: u32,
+    pub star: Star,
 }
 
 /// Binds by their numbers, in file order.

@@ -1,10 +1,20 @@
-//! Designs: nodes, the binds between them, and the edges that binds make.
+//! Designs: nodes, the binds between them, the edges that binds make, and the order of nodes.
 #![tactic(auto)]
 
 mod design;
 mod edges;
 mod fault;
+mod kinds;
+mod laws;
+mod ordering;
+#[cfg(test)]
+mod tests;
 
-pub use design::{BindEntry, Binds, Design, ModuleEntry, ModuleTree, NodeEntry, NodeKind, Nodes};
+pub use design::{
+    BindEntry, Binds, Design, ModuleEntry, ModuleTree, NodeEntry, NodeKind, Nodes, Star,
+};
 pub use edges::{Edge, Edges};
 pub use fault::Fault;
+pub use kinds::kind_at;
+pub use laws::order_law;
+pub use ordering::{Numbers, OrderFault, canonical_order, order};
