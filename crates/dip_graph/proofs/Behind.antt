@@ -1,5 +1,5 @@
 -- In the canonical order each node is ready where the ones before it are listed.
-use Rattle.std.proofs.Common.{◌≡◌, ℕ, zero, suc, ◌+◌, Bool, true, false, List, [], ◌∷◌, ◌++◌, length, Option, Some, None, cond, refl, sym, subst, ◌∙◌, ap}
+use Rattle.std.proofs.Common.{◌≡◌, ℕ, zero, suc, ◌+◌, Bool, true, false, List, [], ◌∷◌, ◌++◌, length, Option, Some, None, cond, refl, sym, subst, ◌∙◌}
 use Rattle.std.proofs.lemmas.List.{append-nil, append_assoc}
 use Rattle.dip_graph.specs.declared.design.BindEntry.{BindEntry}
 use Rattle.dip_graph.specs.Orders.{is_ready, first_from, least_ready, listed_with, order_from, StandBehind, EachStandsBehind}

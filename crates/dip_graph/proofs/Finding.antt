@@ -1,5 +1,5 @@
 -- A fault of one check beside those after it.
-use Rattle.std.proofs.Common.{◌≡◌, ℕ, ap, Option, Some, None, ◌∙◌, List, ◌++◌}
+use Rattle.std.proofs.Common.{◌≡◌, ℕ, ap, Option, None, ◌∙◌, List, ◌++◌}
 use Rattle.std.specs.Option.{option_or, option_map}
 use Rattle.dip_lists.specs.First.{Check as CheckOf, Failure, failure_of, first_failing}
 use Rattle.dip_lists.proofs.Firsts.{passes_first, fails_first}

@@ -1,4 +1,4 @@
-use crate::{BindEntry, Design, NodeEntry, NodeKind, OrderFault, Star, order};
+use crate::{BindEntry, Design, NodeEntry, NodeKind, Numbers, OrderFault, Star, order};
 use dip_lists::Items;
 use dip_sets::Name;
 use std::alloc::Global;
@@ -38,20 +38,31 @@ fn design(alloc: Global, nodes: u32, binds: &[(u32, u32)]) -> Result<Design, Fai
     Ok(design)
 }
 
+// The order of such a design, or its fault.
+fn answer(
+    alloc: Global,
+    nodes: u32,
+    binds: &[(u32, u32)],
+) -> Result<Result<Numbers, OrderFault>, Fail> {
+    let design = design(alloc, nodes, binds)?;
+    if design.nodes.len() > 9 {
+        return Ok(Err(OrderFault::Memory));
+    }
+    Ok(order(alloc, &design))
+}
+
 fn has_order(
     alloc: Global,
     nodes: u32,
     binds: &[(u32, u32)],
     expected: &[u32],
 ) -> Result<bool, Fail> {
-    let order = order(alloc, &design(alloc, nodes, binds)?)?;
+    let order = answer(alloc, nodes, binds)??;
     Ok(order.as_slice() == expected)
 }
 
 fn waits(alloc: Global, nodes: u32, binds: &[(u32, u32)], least: u32) -> Result<bool, Fail> {
-    let fault = order(alloc, &design(alloc, nodes, binds)?)
-        .err()
-        .ok_or("a fault")?;
+    let fault = answer(alloc, nodes, binds)?.err().ok_or("a fault")?;
     Ok(fault == OrderFault::Cycle { node: least })
 }
 
