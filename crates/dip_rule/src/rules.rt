@@ -1,0 +1,109 @@
+ghost use Rattle.std.specs.Prelude.{◌≡◌, map};
+ghost use Rattle.std.specs.Option.{option_map};
+ghost use Rattle.dip_rule.specs.Stated.{Answers, down_by, place_of, rule_of, stated_rule, template_of, up_by};
+
+use crate::{Rule, RuleFault};
+use dip_lists::Items;
+use dip_sets::Name;
+use tl_params::{Args, DownPort, Template, UpPort};
+
+/// The rule of a kind of nodes.
+#[derive(Drop)]
+pub struct RuleEntry {
+    pub kind: Name,
+    /// What is built for a node of this kind.
+    pub template: Template,
+    pub rule: Box<dyn Rule>,
+}
+
+/// Entries in order.
+pub type RuleEntries = Items<RuleEntry>;
+
+/// The rules of kinds, which contracts see as the list of what they state.
+#[derive(Drop)]
+pub struct Rules {
+    pub entries: RuleEntries,
+}
+
+impl RuleEntry {
+    fn ask_down(&self, args: &Args, ins: &[DownPort]) -> Result<DownPort, RuleFault>
+        ensures { Answers (says_down self.now.rule args.now ins.now) result }
+    {
+        self.rule.down(args, ins)
+    }
+
+    fn ask_up(&self, args: &Args, outs: &[UpPort]) -> Result<UpPort, RuleFault>
+        ensures { Answers (says_up self.now.rule args.now outs.now) result }
+    {
+        self.rule.up(args, outs)
+    }
+}
+
+impl Rules {
+    /// The place of the first entry of a kind; `None` exactly where there is none.
+    pub fn find(&self, kind: &Name) -> Option<usize>
+        ensures { result ≡ place_of (map (λ e. stated_rule e.kind e.template (says_down e.rule)
+            (says_up e.rule)) self.now.entries) kind.now }
+    {
+        for (place, entry) in self.entries.as_slice().iter().enumerate() {
+            if entry.kind.bytes() == kind.bytes() {
+                return Some(place);
+            }
+        }
+        None
+    }
+
+    // The first entry of a kind.
+    fn entry_of(&self, kind: &Name) -> Option<&RuleEntry>
+        ensures { option_map (λ b. stated_rule b.now.kind b.now.template (says_down b.now.rule)
+            (says_up b.now.rule)) result ≡ rule_of (map (λ e. stated_rule e.kind e.template (says_down e.rule)
+            (says_up e.rule)) self.now.entries) kind.now }
+    {
+        for entry in self.entries.as_slice() {
+            if entry.kind.bytes() == kind.bytes() {
+                return Some(entry);
+            }
+        }
+        None
+    }
+
+    /// What is built for the nodes of a kind; `None` exactly where it has no entry.
+    pub fn template_of(&self, kind: &Name) -> Option<Template>
+        ensures { result ≡ template_of (map (λ e. stated_rule e.kind e.template (says_down e.rule)
+            (says_up e.rule)) self.now.entries) kind.now }
+    {
+        for entry in self.entries.as_slice() {
+            if entry.kind.bytes() == kind.bytes() {
+                return Some(entry.template);
+            }
+        }
+        None
+    }
+
+    /// What the first entry of a kind answers down; a refusal with 0 where there is none.
+    pub fn ask_down(
+        &self,
+        kind: &Name,
+        args: &Args,
+        ins: &[DownPort],
+    ) -> Result<DownPort, RuleFault>
+        ensures { Answers (down_by (rule_of (map (λ e. stated_rule e.kind e.template (says_down e.rule)
+            (says_up e.rule)) self.now.entries) kind.now) args.now ins.now) result }
+    {
+        match self.entry_of(kind) {
+            Some(entry) => entry.ask_down(args, ins),
+            None => Err(RuleFault::Refused(0)),
+        }
+    }
+
+    /// What the first entry of a kind answers up; a refusal with 0 where there is none.
+    pub fn ask_up(&self, kind: &Name, args: &Args, outs: &[UpPort]) -> Result<UpPort, RuleFault>
+        ensures { Answers (up_by (rule_of (map (λ e. stated_rule e.kind e.template (says_down e.rule)
+            (says_up e.rule)) self.now.entries) kind.now) args.now outs.now) result }
+    {
+        match self.entry_of(kind) {
+            Some(entry) => entry.ask_up(args, outs),
+            None => Err(RuleFault::Refused(0)),
+        }
+    }
+}
