@@ -1,5 +1,5 @@
 -- The parameters on which the ports of a design agree.
-use Rattle.std.specs.Prelude.{ℕ, ◌≡◌, ◌<◌, cond, List, [], ◌∷◌, length, replicate, Option, Some, None, Result, Ok, Err, IsOk, All, slice_get, unwrap_or}
+use Rattle.std.specs.Prelude.{ℕ, ◌≡◌, ◌<◌, cond, List, [], ◌∷◌, length, replicate, Option, Some, None, Result, Ok, Err, IsOk, ◌⊎◌, All, slice_get, unwrap_or}
 use Rattle.dip_lists.specs.First.{first}
 use Rattle.dip_sets.specs.Sets.{Pattern}
 use Rattle.tl_params.specs.declared.ops.Ops.{Ops}
@@ -15,9 +15,9 @@ use Rattle.dip_graph.specs.declared.design.Design.{Design}
 use Rattle.dip_graph.specs.declared.edges.Edge.{Edge}
 use Rattle.dip_rule.specs.Stated.{StatedRule, rule_of, down_by, up_by}
 use Rattle.dip_negotiate.specs.declared.steps.End.{End}
-use Rattle.dip_negotiate.specs.declared.negotiate.Solution.{Solution}
-use Rattle.dip_negotiate.specs.declared.negotiate.NegFault.{NegFault}
-use Rattle.dip_negotiate.specs.declared.negotiate.NegFault.TheVariants.{DownRefused, UpRefused, Memory}
+use Rattle.dip_negotiate.specs.declared.solution.Solution.{Solution}
+use Rattle.dip_negotiate.specs.declared.solution.NegFault.{NegFault}
+use Rattle.dip_negotiate.specs.declared.solution.NegFault.TheVariants.{DownRefused, UpRefused, Memory}
 use Rattle.dip_negotiate.specs.Passes.{Pass, Refusal, run, OnlySolves, RefusesFirst}
 use Rattle.dip_negotiate.specs.Places.{source_end, sink_end, is_nexus_node, asked, steps_down, steps_up}
 
@@ -91,14 +91,24 @@ abbrev pub IsRefusalAt : {P : Type 0} → (Edge → End) → Result (List P) Ref
 IsRefusalAt place (Ok ports) where_ number = ⊥
 IsRefusalAt place (Err refused) where_ number = (place refused.edge ≡ where_) × (refused.number ≡ number)
 
--- the fault names the first refusal down, or that up where all go down, or is want of memory
-abbrev pub IsNegFault : List StatedRule → Design → List Edge → NegFault → Type 0
-IsNegFault rules design edges (DownRefused node port number) =
+-- the fault names the first refusal down, or is want of memory
+abbrev pub IsDownFault : List StatedRule → Design → List Edge → NegFault → Type 0
+IsDownFault rules design edges (DownRefused node port number) =
     IsRefusalAt (λ edge. place_of rules design.nodes (source_end edge)) (downs rules design edges) (record { node = node; port = port }) number
-IsNegFault rules design edges (UpRefused node port number) =
-    IsOk (downs rules design edges)
-    × IsRefusalAt (λ edge. place_of rules design.nodes (sink_end edge)) (ups rules design edges) (record { node = node; port = port }) number
-IsNegFault rules design edges Memory = Unit {0}
+IsDownFault rules design edges (UpRefused node port number) = ⊥
+IsDownFault rules design edges Memory = Unit {0}
+
+-- the fault names the first refusal up, or is want of memory
+abbrev pub IsUpFault : List StatedRule → Design → List Edge → NegFault → Type 0
+IsUpFault rules design edges (DownRefused node port number) = ⊥
+IsUpFault rules design edges (UpRefused node port number) =
+    IsRefusalAt (λ edge. place_of rules design.nodes (sink_end edge)) (ups rules design edges) (record { node = node; port = port }) number
+IsUpFault rules design edges Memory = Unit {0}
+
+-- the first refusal down, or where none is refused down the first one up, or want of memory
+abbrev pub IsNegFault : List StatedRule → Design → List Edge → NegFault → Type 0
+IsNegFault rules design edges fault =
+    IsDownFault rules design edges fault ⊎ (IsOk (downs rules design edges) × IsUpFault rules design edges fault)
 
 -- ---- what they mean
 

@@ -2,6 +2,8 @@
 use Rattle.std.specs.Prelude.{ℕ, ◌≡◌, List, [], ◌∷◌, ◌++◌, length, Option, Some, None, Result, Ok, Err, slice_get, slice_set}
 use Rattle.dip_graph.specs.declared.edges.Edge.{Edge}
 use Rattle.dip_negotiate.specs.declared.steps.Step.{Step}
+use Rattle.dip_negotiate.specs.declared.pass.PassFault.{PassFault}
+use Rattle.dip_negotiate.specs.declared.pass.PassFault.TheVariants.{Refused, Memory}
 
 -- a port beside others, where there is one
 abbrev pub beside : {P : Type 0} → Option P → List P → List P
@@ -39,6 +41,11 @@ go_on edge (Err number) next = Err (refusal edge number)
 abbrev pub run : {P : Type 0} → Pass P → List P → List Step → Result (List P) Refusal
 run pass ports [] = Ok ports
 run pass ports (step ∷ steps) = go_on step.edge (stated pass ports step.edge) (λ port. run pass (slice_set ports step.number port) steps)
+
+-- the fault names the refused edge, or is want of memory
+abbrev pub IsPassFault : {P : Type 0} → Result (List P) Refusal → PassFault → Type 0
+IsPassFault result (Refused edge number) = result ≡ Err (refusal edge number)
+IsPassFault result Memory = Unit {0}
 
 -- The equation of an edge: its port is the one stated.
 pub record Holds {P : Type 0} (pass : Pass P) (ports : List P) (number : ℕ) (edge : Edge) : Type 0 where

@@ -1,8 +1,11 @@
 //! Negotiation: the parameters on which the ports of a design agree by the rules of its nodes.
 #![tactic(auto)]
 
-mod negotiate;
+mod asking;
+mod pass;
+mod ports;
+mod solution;
 mod steps;
 
-pub use negotiate::{NegFault, Solution};
+pub use solution::{NegFault, Solution, negotiate};
 pub use steps::{End, Step, Steps};
