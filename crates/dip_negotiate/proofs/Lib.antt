@@ -1,2 +1,6 @@
 pub mod Back
 pub mod Picks
+pub mod Lookups
+pub mod Runs
+pub mod Taken
+pub mod Ordered
