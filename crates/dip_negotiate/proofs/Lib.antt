@@ -4,3 +4,4 @@ pub mod Lookups
 pub mod Runs
 pub mod Taken
 pub mod Ordered
+pub mod Law

@@ -1,21 +1,18 @@
 -- Both passes take the edges of a design without a cycle in order, and each of them once.
-use Rattle.std.proofs.Common.{◌≡◌, ℕ, zero, suc, ◌+◌, ◌<◌, Bool, true, false, not, ◌&&◌, ◌||◌, List, [], ◌∷◌, ◌++◌, length, Option, Some, None, cond, refl, sym, ap, ◌∙◌, subst, arith, ◌⊎◌, inl, inr}
-use Rattle.std.specs.Prelude.{slice_get, ◌==◌, All}
-use Rattle.std.specs.List.{list_any, list_all}
+use Rattle.std.proofs.Common.{◌≡◌, ℕ, zero, suc, ◌+◌, Bool, true, false, not, ◌&&◌, ◌||◌, List, [], ◌∷◌, ◌++◌, Some, refl, sym, ap, ◌∙◌, subst, arith, ◌⊎◌, inl, inr}
+use Rattle.std.specs.Prelude.{slice_get, ◌==◌}
+use Rattle.std.specs.List.{list_all}
 use Rattle.std.proofs.lemmas.Bool.{eqb-true, eq-eqb}
-use Rattle.std.proofs.lemmas.List.{append_assoc, append-nil}
+use Rattle.std.proofs.lemmas.List.{append_assoc}
 use Rattle.std.proofs.lemmas.List.Folds.{list_any-append}
-use Rattle.dip_lists.specs.First.{first, places}
 use Rattle.dip_graph.specs.Orders.{is_listed, is_met, is_ready, StandBehind}
 use Rattle.dip_graph.specs.declared.design.BindEntry.{BindEntry}
 use Rattle.dip_graph.specs.declared.edges.Edge.{Edge}
-use Rattle.dip_negotiate.specs.declared.steps.End.{End}
-use Rattle.dip_negotiate.specs.declared.steps.Step.{Step}
 use Rattle.dip_negotiate.specs.Places.{source_end, sink_end, steps_at, steps_down, steps_up}
 use Rattle.dip_negotiate.specs.Negotiation.{FollowsBind}
 use Rattle.dip_negotiate.proofs.Lookups.{In}
 use Rattle.dip_negotiate.proofs.Runs.{InOrder, known_after}
-use Rattle.dip_negotiate.proofs.Taken.{Knows, IsStep, IsFed, at_node, knows_more, known_joined, order_joined, step_left, step_right, at_has, at_is, yes_or_no}
+use Rattle.dip_negotiate.proofs.Taken.{Knows, IsStep, at_node, knows_more, known_joined, order_joined, step_left, step_right, at_has, yes_or_no}
 
 never : {A : Type 0} → true ≡ false → A
 never z = absurd (cc)
@@ -87,11 +84,11 @@ module _ (binds : List BindEntry) (edges : List Edge) (follow : (x : ℕ) (edge 
           order_joined asks known (steps_at source_end n 0 edges) (steps_down ns edges)
           (at_node source_end sink_end edges asks reached (is_listed listed) n new fed known k)
           (down_order (listed ++ n ∷ []) ns (known_after known (steps_at source_end n 0 edges))
-            (knows_more source_end sink_end edges asks reached (is_listed listed) n new fed known k (is_listed (listed ++ n ∷ []))
-              (λ m h. listed_left listed (n ∷ []) m h)
-              (listed_right listed (n ∷ []) n (listed_here n []))
-              (λ m h. elim (listed_cases listed n [] m h) [ inl i ↦ inl i | inr (inl q) ↦ inr q | inr (inr z) ↦ absurd cc ]))
-            s.1)
+          (knows_more source_end sink_end edges asks reached (is_listed listed) n new fed known k (is_listed (listed ++ n ∷ []))
+          (λ m h. listed_left listed (n ∷ []) m h)
+          (listed_right listed (n ∷ []) n (listed_here n []))
+          (λ m h. elim (listed_cases listed n [] m h) [ inl i ↦ inl i | inr (inl q) ↦ inr q | inr (inr z) ↦ absurd cc ]))
+          s.1)
 
   -- with each node of a list, its from-nodes are in it
   abbrev IsClosed : List ℕ → Type 0
@@ -134,19 +131,19 @@ module _ (binds : List BindEntry) (edges : List Edge) (follow : (x : ℕ) (edge 
     up_order listed [] s c all = record { order = tt; knows = record { has = λ x edge e p. absurd cc; only = λ x i. absurd i } }
     up_order listed (n ∷ ns) s c all =
         let later = up_order (listed ++ n ∷ []) ns s.1 (closed_more listed n s.0 c)
-            (λ x edge e. ap (λ l. is_listed l edge.to) (append_assoc listed (n ∷ []) ns) ∙ all x edge e) in
+        (λ x edge e. ap (λ l. is_listed l edge.to) (append_assoc listed (n ∷ []) ns) ∙ all x edge e) in
         let new : is_listed ns n ≡ false = not_again (listed ++ n ∷ []) ns n s.1 (listed_right listed (n ∷ []) n (listed_here n [])) in
         let fed : (x : ℕ) (edge : Edge) → slice_get edges x ≡ Some edge → edge.from ≡ n → is_listed ns edge.to ≡ true =
-            λ x edge e q. to_later listed n ns s.0 c x edge e q (all x edge e) in
+        λ x edge e q. to_later listed n ns s.0 c x edge e q (all x edge e) in
         let known = known_after [] (steps_up ns edges) in
         record {
           order = order_joined asks [] (steps_up ns edges) (steps_at sink_end n 0 edges) later.order
               (at_node sink_end source_end edges asks reached (is_listed ns) n new fed known later.knows);
           knows = subst (λ k. Knows sink_end edges (is_listed (n ∷ ns)) k) (sym (known_joined [] (steps_up ns edges) (steps_at sink_end n 0 edges)))
               (knows_more sink_end source_end edges asks reached (is_listed ns) n new fed known later.knows (is_listed (n ∷ ns))
-                (λ m h. ap (λ b. (n == m) || b) h ∙ or_true (n == m))
-                (listed_here n ns)
-                (λ m h. elim (either (n == m) (is_listed ns m) h) [ inl q ↦ inr (sym (eqb-true n m q)) | inr i ↦ inl i ]));
+              (λ m h. ap (λ b. (n == m) || b) h ∙ or_true (n == m))
+              (listed_here n ns)
+              (λ m h. elim (either (n == m) (is_listed ns m) h) [ inl q ↦ inr (sym (eqb-true n m q)) | inr i ↦ inl i ]));
         }
 
 -- ---- every edge is a step

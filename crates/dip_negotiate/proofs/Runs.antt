@@ -1,10 +1,10 @@
 -- What a pass over steps in order gives.
-use Rattle.std.proofs.Common.{◌≡◌, ◌≢◌, ℕ, ◌<◌, List, [], ◌∷◌, ◌++◌, length, Some, None, Result, Ok, Err, refl, sym, ap, ◌∙◌, subst, arith, ◌⊎◌, inl, inr}
+use Rattle.std.proofs.Common.{◌≡◌, ℕ, ◌<◌, List, [], ◌∷◌, ◌++◌, length, Some, Result, Ok, Err, refl, sym, ap, ◌∙◌, subst, inl, inr}
 use Rattle.std.specs.Prelude.{slice_get, slice_set}
 use Rattle.std.proofs.lemmas.List.{length-set}
 use Rattle.dip_graph.specs.declared.edges.Edge.{Edge}
 use Rattle.dip_negotiate.specs.declared.steps.Step.{Step}
-use Rattle.dip_negotiate.specs.Passes.{Pass, picked, stated, Refusal, refusal, go_on, run, Holds, HoldAt, RefusesFirst}
+use Rattle.dip_negotiate.specs.Passes.{Pass, stated, Refusal, refusal, go_on, run, HoldAt, RefusesFirst}
 use Rattle.dip_negotiate.proofs.Lookups.{In, get_set, get_set_other, same_picked}
 
 -- each step asks edges that are known, and makes the port of one that isn't
@@ -55,15 +55,18 @@ module _ {P : Type 0} (pass : Pass P) where
       at (Ok port) a e f =
           let later = f port e in
           let kept : (x : ℕ) → In x known → slice_get final x ≡ slice_get ports x =
-              λ x i. later.kept x (inr i) ∙ get_set_other ports step.number x port (λ q. o.1 (subst (λ y. In y known) q i)) in
+          λ x i. later.kept x (inr i) ∙ get_set_other ports step.number x port (λ q. o.1 (subst (λ y. In y known) q i)) in
           record {
             kept = kept;
             long = later.long ∙ length-set ports step.number port;
-            holds = (record {
-              port = port;
-              here = later.kept step.number (inl refl) ∙ get_set ports step.number port w.0;
-              is = ap (pass.says step.edge) (same_picked final ports (pass.asks step.edge) (λ x i. kept x (o.0 x i))) ∙ a;
-            }, later.holds);
+            holds = (
+              record {
+                port = port;
+                here = later.kept step.number (inl refl) ∙ get_set ports step.number port w.0;
+                is = ap (pass.says step.edge) (same_picked final ports (pass.asks step.edge) (λ x i. kept x (o.0 x i))) ∙ a;
+              },
+              later.holds,
+            );
           }
 
   -- two lists of ports in which the equations hold agree
@@ -72,7 +75,7 @@ module _ {P : Type 0} (pass : Pass P) where
   only known [] a b o g ha hb = g
   only known (step ∷ steps) a b o g ha hb =
       let same : ha.0.port ≡ hb.0.port = same_ok ha.0.port hb.0.port
-          (sym ha.0.is ∙ ap (pass.says step.edge) (same_picked a b (pass.asks step.edge) (λ x i. g x (o.0 x i))) ∙ hb.0.is) in
+      (sym ha.0.is ∙ ap (pass.says step.edge) (same_picked a b (pass.asks step.edge) (λ x i. g x (o.0 x i))) ∙ hb.0.is) in
       only (step.number ∷ known) steps a b o.2 (λ x i. elim i [
         | inl q ↦ rw q (ha.0.here ∙ ap Some same ∙ sym hb.0.here)
         | inr j ↦ g x j

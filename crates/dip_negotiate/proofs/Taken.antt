@@ -1,15 +1,13 @@
 -- The steps of nodes, one after another.
-use Rattle.std.proofs.Common.{◌≡◌, ◌≢◌, ℕ, zero, suc, ◌+◌, ◌<◌, Bool, true, false, cond, List, [], ◌∷◌, ◌++◌, length, Option, Some, None, refl, sym, ap, ◌∙◌, subst, arith, ◌⊎◌, inl, inr}
+use Rattle.std.proofs.Common.{◌≡◌, ℕ, zero, suc, ◌+◌, ◌<◌, Bool, true, false, cond, List, [], ◌∷◌, ◌++◌, Some, refl, sym, ap, ◌∙◌, subst, arith, ◌⊎◌, inl, inr}
 use Rattle.std.specs.Prelude.{slice_get, ◌==◌}
 use Rattle.std.proofs.lemmas.Bool.{eqb-true, eq-eqb}
-use Rattle.std.proofs.lemmas.Option.{slice_get_within}
 use Rattle.dip_graph.specs.declared.edges.Edge.{Edge}
 use Rattle.dip_negotiate.specs.declared.steps.End.{End}
 use Rattle.dip_negotiate.specs.declared.steps.Step.{Step}
-use Rattle.dip_negotiate.specs.Passes.{Pass, Holds, HoldAt}
 use Rattle.dip_negotiate.specs.Places.{step, steps_at}
 use Rattle.dip_negotiate.proofs.Lookups.{In}
-use Rattle.dip_negotiate.proofs.Runs.{InOrder, Within, known_after}
+use Rattle.dip_negotiate.proofs.Runs.{InOrder, known_after}
 
 -- an edge with this number is a step
 abbrev pub IsStep : ℕ → Edge → List Step → Type 0
@@ -73,6 +71,7 @@ module _ (near : Edge → End) (node : ℕ) where
       later : ((j : ℕ) × (x ≡ from + 1 + j) × (slice_get edges j ≡ Some edge) × ((near edge).node ≡ node))
           → (j : ℕ) × (x ≡ from + j) × (slice_get (e ∷ edges) j ≡ Some edge) × ((near edge).node ≡ node)
       later f = let q : x ≡ from + suc f.0 = omega (arith, f.1) in (suc f.0, q, f.2, f.3)
+
       at : (b : Bool) → ((near e).node == node) ≡ b → IsStep x edge (cond b (step from e ∷ steps_at near node (from + 1) edges) (steps_at near node (from + 1) edges))
           → (IsStep x edge (steps_at near node (from + 1) edges) → (j : ℕ) × (x ≡ from + 1 + j) × (slice_get edges j ≡ Some edge) × ((near edge).node ≡ node))
           → (j : ℕ) × (x ≡ from + j) × (slice_get (e ∷ edges) j ≡ Some edge) × ((near edge).node ≡ node)
@@ -88,6 +87,7 @@ module _ (near : Edge → End) (node : ℕ) where
     where
       moved : (k : ℕ) → IsStep (from + 1 + k) edge (steps_at near node (from + 1) edges) → IsStep (from + suc k) edge (steps_at near node (from + 1) edges)
       moved k i = let q : from + 1 + k ≡ from + suc k = omega arith in subst (λ x. IsStep x edge (steps_at near node (from + 1) edges)) q i
+
       at : (b : Bool) → ((near d).node == node) ≡ b → (j : ℕ) → slice_get (d ∷ edges) j ≡ Some edge
           → ((k : ℕ) → slice_get edges k ≡ Some edge → IsStep (from + 1 + k) edge (steps_at near node (from + 1) edges))
           → IsStep (from + j) edge (cond b (step from d ∷ steps_at near node (from + 1) edges) (steps_at near node (from + 1) edges))
@@ -125,23 +125,27 @@ module _ (near far : Edge → End) (edges : List Edge) (asks : Edge → List ℕ
       where
         tail : (j : ℕ) → slice_get rest j ≡ slice_get edges (from + 1 + j)
         tail j = let q : from + suc j ≡ from + 1 + j = omega arith in same (suc j) ∙ ap (slice_get edges) q
+
         more : (x : ℕ) → ((edge : Edge) × (slice_get edges x ≡ Some edge) × (passes (near edge).node ≡ true)) ⊎ (x < from)
             → ((edge : Edge) × (slice_get edges x ≡ Some edge) × (passes (near edge).node ≡ true)) ⊎ (x < from + 1)
         more x (inl f) = inl f
         more x (inr l) = inr (omega (arith, l))
+
         here : slice_get edges from ≡ Some e
         here = let q : from + 0 ≡ from = omega arith in sym (same 0 ∙ ap (slice_get edges) q)
+
         at : (b : Bool) → ((near e).node == node) ≡ b → InOrder asks (from ∷ known) (steps_at near node (from + 1) rest) → InOrder asks known (steps_at near node (from + 1) rest)
             → InOrder asks known (cond b (step from e ∷ steps_at near node (from + 1) rest) (steps_at near node (from + 1) rest))
         at false q a b = b
         at true q a b =
-            let is : (near e).node ≡ node = eqb-true (near e).node node q in
-            ((λ y i. let r = reached e y i in has y r.0 r.1 (fed y r.0 r.1 (r.2 ∙ is))),
-             (λ i. elim (only from i) [
-               | inl f ↦ both_ways passes node new f.0 f.2 (ap (λ (d : Edge). (near d).node) (same_some f.0 e (sym f.1 ∙ here)) ∙ is)
-               | inr l ↦ absurd (omega (arith, l))
-             ]),
-             a)
+            let is : (near e).node ≡ node = eqb-true (near e).node node q in (
+              (λ y i. let r = reached e y i in has y r.0 r.1 (fed y r.0 r.1 (r.2 ∙ is))),
+              (λ i. elim (only from i) [
+                | inl f ↦ both_ways passes node new f.0 f.2 (ap (λ (d : Edge). (near d).node) (same_some f.0 e (sym f.1 ∙ here)) ∙ is)
+                | inr l ↦ absurd (omega (arith, l))
+              ]),
+              a,
+            )
 
     pub at_node : (known : List ℕ) → Knows near edges passes known → InOrder asks known (steps_at near node 0 edges)
     at_node known k = node_order 0 edges known (λ j. ap (slice_get edges) (from_none j)) k.has (λ x i. inl (k.only x i))

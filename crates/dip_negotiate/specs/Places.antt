@@ -1,5 +1,5 @@
 -- The ends of edges, which edges an edge's port is made of, and the order in which a pass takes edges.
-use Rattle.std.specs.Prelude.{ℕ, ◌+◌, Bool, true, false, ◌&&◌, ◌||◌, ◌==◌, cond, List, [], ◌∷◌, ◌++◌, Option, Some, None}
+use Rattle.std.specs.Prelude.{ℕ, ◌+◌, Bool, false, ◌&&◌, ◌||◌, ◌==◌, cond, List, [], ◌∷◌, ◌++◌, Option, Some, None}
 use Rattle.dip_lists.specs.First.{places}
 use Rattle.tl_params.specs.Operations.{is_nexus}
 use Rattle.tl_params.specs.declared.ops.Template.{Template}

@@ -2,10 +2,12 @@
 #![tactic(auto)]
 
 mod asking;
+mod laws;
 mod pass;
 mod ports;
 mod solution;
 mod steps;
 
+pub use laws::negotiation_law;
 pub use solution::{NegFault, Solution, negotiate};
 pub use steps::{End, Step, Steps};
