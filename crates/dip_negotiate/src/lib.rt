@@ -9,5 +9,6 @@ mod solution;
 mod steps;
 
 pub use laws::negotiation_law;
+pub use asking::is_nexus_node;
 pub use solution::{NegFault, Solution, negotiate};
 pub use steps::{End, Step, Steps};

@@ -1,0 +1,6 @@
+use Rattle.std.proofs.Common.{◌≡◌, ◌+ℤ◌, drop}
+use Rattle.dip_stars.specs.Rounds.{sum_to}
+use Rattle.dip_stars.proofs.rounds.sum_to.Given as goal
+
+abbrev pub invariant-loop-count : goal.invariant-loop-count
+invariant-loop-count l = l.sum +ℤ sum_to l.node (drop l.count-index l.counts) ≡ sum_to l.node l.counts
