@@ -1,5 +1,5 @@
 -- The edges that binds make, and why they make none.
-use Rattle.std.specs.Prelude.{ℕ, zero, suc, ℤ, pos, nat_abs, ◌+ℤ◌, ◌+◌, ◌≡◌, ◌==◌, Bool, true, false, ◌||◌, ◌&&◌, not, cond, List, [], ◌∷◌, ◌++◌, length, count_by, Option, Some, None, is_none, int_lt, nat_lt}
+use Rattle.std.specs.Prelude.{ℕ, zero, suc, ℤ, pos, nat_abs, ◌+ℤ◌, ◌+◌, ◌≡◌, ◌==◌, ◌⊎◌, Bool, true, false, ◌||◌, ◌&&◌, not, cond, List, [], ◌∷◌, ◌++◌, length, count_by, Option, Some, None, is_none, int_lt, nat_lt}
 use Rattle.std.specs.Ordering.{int_eq}
 use Rattle.std.specs.List.{list_any}
 use Rattle.dip_lists.specs.First.{first, places}
@@ -68,15 +68,22 @@ excess counts = cond (nat_lt most_edges (total counts)) (total counts ∷ []) []
 
 -- ---- the edges: each bind as often as its number says, in the order of binds
 
+-- how many edges come from a node, and how many go to it
+abbrev pub outs : ℕ → List Edge → ℕ
+outs node edges = count_by (λ edge. edge.from == node) edges
+
+abbrev pub ins : ℕ → List Edge → ℕ
+ins node edges = count_by (λ edge. edge.to == node) edges
+
 -- the edge of a bind behind others: a node's out ports and in ports are numbered in that order
 abbrev pub edge_behind : List Edge → ℕ → BindEntry → Edge
 edge_behind earlier number b =
     record {
       bind = number;
       from = b.from;
-      from_port = count_by (λ edge. edge.from == b.from) earlier;
+      from_port = outs b.from earlier;
       to = b.to;
-      to_port = count_by (λ edge. edge.to == b.to) earlier;
+      to_port = ins b.to earlier;
     }
 
 abbrev pub with_copies : ℕ → List Edge → ℕ → BindEntry → List Edge
@@ -93,13 +100,33 @@ edges_of counts = edges_behind [] 0 counts
 
 -- ---- answers
 
--- the fault names the least bind that waits; or where none does, the least node that fails; or where none does, the count; or is want of memory
+-- the fault names the least bind that waits, or is want of memory
+abbrev pub IsWaiting : List Counted → StarFault → Type 0
+IsWaiting counts (StarsWait bind) = first (waiting counts) ≡ Some bind
+IsWaiting counts (Arity node) = ⊥
+IsWaiting counts (TooManyEdges count) = ⊥
+IsWaiting counts Memory = Unit {0}
+
+-- the least node that fails
+abbrev pub IsUnfilled : List StatedRule → List NodeEntry → List Counted → StarFault → Type 0
+IsUnfilled rules nodes counts (StarsWait bind) = ⊥
+IsUnfilled rules nodes counts (Arity node) = first (unfilled rules nodes counts) ≡ Some node
+IsUnfilled rules nodes counts (TooManyEdges count) = ⊥
+IsUnfilled rules nodes counts Memory = Unit {0}
+
+-- how many edges there are
+abbrev pub IsExcess : List Counted → StarFault → Type 0
+IsExcess counts (StarsWait bind) = ⊥
+IsExcess counts (Arity node) = ⊥
+IsExcess counts (TooManyEdges count) = first (excess counts) ≡ Some count
+IsExcess counts Memory = Unit {0}
+
+-- the first of the three that fails
 abbrev pub IsStarFault : List StatedRule → List NodeEntry → List Counted → StarFault → Type 0
-IsStarFault rules nodes counts (StarsWait bind) = first (waiting counts) ≡ Some bind
-IsStarFault rules nodes counts (Arity node) = (first (waiting counts) ≡ None) × (first (unfilled rules nodes counts) ≡ Some node)
-IsStarFault rules nodes counts (TooManyEdges count) =
-    (first (waiting counts) ≡ None) × (first (unfilled rules nodes counts) ≡ None) × (first (excess counts) ≡ Some count)
-IsStarFault rules nodes counts Memory = Unit {0}
+IsStarFault rules nodes counts fault =
+    IsWaiting counts fault
+    ⊎ ((first (waiting counts) ≡ None) × (IsUnfilled rules nodes counts fault
+    ⊎ ((first (unfilled rules nodes counts) ≡ None) × IsExcess counts fault)))
 
 -- no bind waits, no node fails, and there aren't too many edges
 pub record AreResolved (rules : List StatedRule) (nodes : List NodeEntry) (counts : List Counted) : Type 0 where

@@ -1,8 +1,9 @@
 //! Star bindings: how many edges each bind of a design makes, and those edges.
 #![tactic(auto)]
 
+mod edges;
 mod rounds;
 mod stars;
 
-pub use rounds::{Counted, Counts, counts_of};
-pub use stars::StarFault;
+pub use rounds::{Counted, Counts};
+pub use stars::{StarFault, resolve};

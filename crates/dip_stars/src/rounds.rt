@@ -1,4 +1,4 @@
-ghost use Rattle.std.specs.Prelude.{◌≡◌, ◌+ℤ◌, ◌-ℤ◌, pos, map, IfOk};
+ghost use Rattle.std.specs.Prelude.{◌≡◌, ◌+ℤ◌, ◌-ℤ◌, pos, length, map, IfOk};
 ghost use Rattle.dip_graph.specs.Kinds.{kind_at};
 ghost use Rattle.dip_rule.specs.Stated.{stated_rule};
 ghost use Rattle.dip_stars.specs.Rounds as spec;
@@ -247,14 +247,16 @@ fn after_rounds(
 }
 
 /// The binds with their numbers, after as many rounds as there are binds.
+#[tactic(auto, using(crate::proofs::Turns::counts_long))]
 pub fn counts_of(
     alloc: Global,
     rules: &Rules,
     nodes: &[NodeEntry],
     binds: &[BindEntry],
 ) -> Result<Counts, Memory>
-    ensures { IfOk result (λ counts. counts ≡ spec.counts_of (map (λ e. stated_rule e.kind e.template ((⟦<dyn Rule as Rule>⟧ e.rule.vtable).says_down
+    ensures value { IfOk result (λ counts. counts ≡ spec.counts_of (map (λ e. stated_rule e.kind e.template ((⟦<dyn Rule as Rule>⟧ e.rule.vtable).says_down
         e.rule.value) ((⟦<dyn Rule as Rule>⟧ e.rule.vtable).says_up e.rule.value)) rules.now.entries) nodes.now binds.now) }
+    ensures long { IfOk result (λ counts. length counts ≡ length binds.now) }
 {
     let first = first_counts(alloc, rules, nodes, binds)?;
     after_rounds(alloc, nodes, binds.len(), first)

@@ -1,5 +1,20 @@
+ghost use Rattle.std.specs.Prelude.{◌≡◌, ◌<◌, ◌^◌, None, length, map, IfOk, IfErr, OnOk};
+ghost use Rattle.std.specs.List.{list_any};
+ghost use Rattle.dip_lists.specs.First.{first};
+ghost use Rattle.dip_rule.specs.Stated.{stated_rule};
+ghost use Rattle.dip_stars.specs.Edges as spec;
+
+use crate::edges::{edges_of, total};
+use crate::rounds::{Counted, counts_of, decider, known_number, signed, sum_from, sum_to};
+use dip_graph::{Design, Edges, NodeEntry, NodeKind};
 use dip_lists::Memory;
+use dip_negotiate::is_nexus_node;
+use dip_rule::{Rule, Rules};
+use std::alloc::Global;
 use thiserror::Error;
+
+/// The most edges of a design.
+const MOST_EDGES: u64 = 1024;
 
 /// Why binds make no edges.
 #[derive(Clone, Copy, Debug, PartialEq, Eq, Error)]
@@ -26,4 +41,151 @@ impl From<Memory> for StarFault {
     fn from(_: Memory) -> StarFault {
         StarFault::Memory
     }
+}
+
+fn waiting(counts: &[Counted]) -> Option<u32>
+    requires { length counts.now < 2 ^ 32 }
+    ensures { result ≡ first (spec.waiting counts.now) }
+{
+    for (number, count) in counts.iter().enumerate() {
+        if count.number.is_none() {
+            return Some(number as u32);
+        }
+    }
+    None
+}
+
+fn decides_negative(node: u32, count: &Counted) -> bool
+    ensures { result ≡ spec.decides_negative node count.now }
+{
+    decider(&count.bind) == Some(node) && known_number(count) < 0
+}
+
+fn is_negative_at(node: u32, counts: &[Counted]) -> bool
+    ensures { result ≡ list_any (spec.decides_negative node) counts.now }
+{
+    counts.iter().any(|count| decides_negative(node, count))
+}
+
+fn ruled_is_unfilled(nexus: bool, ins: i64, outs: i64) -> bool
+    ensures { result ≡ spec.ruled_is_unfilled nexus ins outs }
+{
+    if nexus {
+        ins < 1 || outs < 1
+    } else {
+        ins != outs || ins == 0
+    }
+}
+
+fn kind_is_unfilled(
+    rules: &Rules,
+    nodes: &[NodeEntry],
+    counts: &[Counted],
+    node: u32,
+    kind: &NodeKind,
+) -> Result<bool, Memory>
+    ensures { IfOk result (λ fails. fails ≡ spec.kind_is_unfilled (map (λ e. stated_rule e.kind e.template ((⟦<dyn Rule as Rule>⟧ e.rule.vtable).says_down
+        e.rule.value) ((⟦<dyn Rule as Rule>⟧ e.rule.vtable).says_up e.rule.value)) rules.now.entries) nodes.now counts.now node kind.now) }
+{
+    match kind {
+        NodeKind::Source { ports, .. } => Ok(sum_from(node, counts)? != *ports as i64),
+        NodeKind::Sink { ports, .. } => Ok(sum_to(node, counts)? != signed(ports.len())?),
+        NodeKind::Ruled { .. } => {
+            let ins = sum_to(node, counts)?;
+            let outs = sum_from(node, counts)?;
+            let nexus = is_nexus_node(rules, nodes, node);
+            Ok(ruled_is_unfilled(nexus, ins, outs))
+        }
+    }
+}
+
+fn node_is_unfilled(
+    rules: &Rules,
+    nodes: &[NodeEntry],
+    counts: &[Counted],
+    node: u32,
+    entry: &NodeEntry,
+) -> Result<bool, Memory>
+    ensures { IfOk result (λ fails. fails ≡ spec.node_is_unfilled (map (λ e. stated_rule e.kind e.template ((⟦<dyn Rule as Rule>⟧ e.rule.vtable).says_down
+        e.rule.value) ((⟦<dyn Rule as Rule>⟧ e.rule.vtable).says_up e.rule.value)) rules.now.entries) nodes.now counts.now node entry.now) }
+{
+    if is_negative_at(node, counts) {
+        Ok(true)
+    } else {
+        kind_is_unfilled(rules, nodes, counts, node, &entry.kind)
+    }
+}
+
+fn unfilled(rules: &Rules, nodes: &[NodeEntry], counts: &[Counted]) -> Result<Option<u32>, Memory>
+    requires { length nodes.now < 2 ^ 32 }
+    ensures { IfOk result (λ node. node ≡ first (spec.unfilled (map (λ e. stated_rule e.kind e.template ((⟦<dyn Rule as Rule>⟧ e.rule.vtable).says_down
+        e.rule.value) ((⟦<dyn Rule as Rule>⟧ e.rule.vtable).says_up e.rule.value)) rules.now.entries) nodes.now counts.now)) }
+{
+    for (node, entry) in nodes.iter().enumerate() {
+        if node_is_unfilled(rules, nodes, counts, node as u32, entry)? {
+            return Ok(Some(node as u32));
+        }
+    }
+    Ok(None)
+}
+
+fn all_known(counts: &[Counted]) -> Result<(), StarFault>
+    requires { length counts.now < 2 ^ 32 }
+    ensures passes { OnOk result (first (spec.waiting counts.now) ≡ None) }
+    ensures err { IfErr result (spec.IsWaiting counts.now) }
+{
+    match waiting(counts) {
+        Some(bind) => Err(StarFault::StarsWait { bind }),
+        None => Ok(()),
+    }
+}
+
+fn all_filled(rules: &Rules, nodes: &[NodeEntry], counts: &[Counted]) -> Result<(), StarFault>
+    requires { length nodes.now < 2 ^ 32 }
+    ensures passes { OnOk result (first (spec.unfilled (map (λ e. stated_rule e.kind e.template ((⟦<dyn Rule as Rule>⟧ e.rule.vtable).says_down
+        e.rule.value) ((⟦<dyn Rule as Rule>⟧ e.rule.vtable).says_up e.rule.value)) rules.now.entries) nodes.now counts.now) ≡ None) }
+    ensures err { IfErr result (spec.IsUnfilled (map (λ e. stated_rule e.kind e.template ((⟦<dyn Rule as Rule>⟧ e.rule.vtable).says_down
+        e.rule.value) ((⟦<dyn Rule as Rule>⟧ e.rule.vtable).says_up e.rule.value)) rules.now.entries) nodes.now counts.now) }
+{
+    match unfilled(rules, nodes, counts)? {
+        Some(node) => Err(StarFault::Arity { node }),
+        None => Ok(()),
+    }
+}
+
+fn few_edges(counts: &[Counted]) -> Result<(), StarFault>
+    ensures passes { OnOk result (first (spec.excess counts.now) ≡ None) }
+    ensures err { IfErr result (spec.IsExcess counts.now) }
+{
+    let count = total(counts)?;
+    if count > MOST_EDGES {
+        Err(StarFault::TooManyEdges { count })
+    } else {
+        Ok(())
+    }
+}
+
+/// The edges of a design, in the order of its binds, each bind as often as its number says.
+///
+/// `StarFault::StarsWait` names the least bind that isn't known after as many rounds as there are binds. Else
+/// `StarFault::Arity` names the least node that decides a negative number or whose binds don't sum up, and else
+/// `StarFault::TooManyEdges` says how many edges there are where these are more than 1,024.
+pub fn resolve(alloc: Global, design: &Design, rules: &Rules) -> Result<Edges, StarFault>
+    requires nodes { length design.now.nodes < 2 ^ 32 }
+    requires binds { length design.now.binds < 2 ^ 32 }
+    ensures ok { IfOk result (λ edges. edges ≡ spec.edges_of (spec.design_counts (map (λ e. stated_rule e.kind e.template ((⟦<dyn Rule as Rule>⟧ e.rule.vtable).says_down
+        e.rule.value) ((⟦<dyn Rule as Rule>⟧ e.rule.vtable).says_up e.rule.value)) rules.now.entries) design.now)) }
+    ensures passes { IfOk result (λ _. spec.AreResolved (map (λ e. stated_rule e.kind e.template ((⟦<dyn Rule as Rule>⟧ e.rule.vtable).says_down
+        e.rule.value) ((⟦<dyn Rule as Rule>⟧ e.rule.vtable).says_up e.rule.value)) rules.now.entries) design.now.nodes (spec.design_counts (map (λ e. stated_rule e.kind e.template ((⟦<dyn Rule as Rule>⟧ e.rule.vtable).says_down
+        e.rule.value) ((⟦<dyn Rule as Rule>⟧ e.rule.vtable).says_up e.rule.value)) rules.now.entries) design.now)) }
+    ensures err { IfErr result (spec.IsStarFault (map (λ e. stated_rule e.kind e.template ((⟦<dyn Rule as Rule>⟧ e.rule.vtable).says_down
+        e.rule.value) ((⟦<dyn Rule as Rule>⟧ e.rule.vtable).says_up e.rule.value)) rules.now.entries) design.now.nodes (spec.design_counts (map (λ e. stated_rule e.kind e.template ((⟦<dyn Rule as Rule>⟧ e.rule.vtable).says_down
+        e.rule.value) ((⟦<dyn Rule as Rule>⟧ e.rule.vtable).says_up e.rule.value)) rules.now.entries) design.now)) }
+{
+    let nodes = design.nodes.as_slice();
+    let counts = counts_of(alloc, rules, nodes, design.binds.as_slice())?;
+    all_known(counts.as_slice())?;
+    all_filled(rules, nodes, counts.as_slice())?;
+    few_edges(counts.as_slice())?;
+    Ok(edges_of(alloc, counts.as_slice())?)
 }
