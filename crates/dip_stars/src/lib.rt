@@ -2,8 +2,10 @@
 #![tactic(auto)]
 
 mod edges;
+mod laws;
 mod rounds;
 mod stars;
 
+pub use laws::edges_law;
 pub use rounds::{Counted, Counts};
 pub use stars::{StarFault, resolve};
