@@ -1,0 +1,2 @@
+pub mod Fragmenting
+pub mod Crossing

@@ -1,0 +1,5 @@
+pub mod Refusals
+pub mod Adapters
+pub mod Fragments
+pub mod Shrinks
+pub mod Crossbars

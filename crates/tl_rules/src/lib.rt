@@ -1,0 +1,16 @@
+//! The standard rules: how buffers, width adapters, fragmenters, shrinkers and crossbars make their ports of
+//! those that they are given.
+#![tactic(auto)]
+
+mod buffer;
+mod fragmenter;
+mod ports;
+mod shrinker;
+mod width;
+mod xbar;
+
+pub use buffer::{buffer_down, buffer_up};
+pub use fragmenter::{fragmenter_down, fragmenter_up};
+pub use shrinker::{shrinker_down, shrinker_up};
+pub use width::{width_down, width_up};
+pub use xbar::{xbar_down, xbar_up};
