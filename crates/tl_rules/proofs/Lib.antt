@@ -1,2 +1,4 @@
 pub mod Fragmenting
 pub mod Crossing
+pub mod Zips
+pub mod Walks

@@ -3,3 +3,4 @@ pub mod Adapters
 pub mod Fragments
 pub mod Shrinks
 pub mod Crossbars
+pub mod Fits

@@ -3,6 +3,8 @@
 #![tactic(auto)]
 
 mod buffer;
+mod fit;
+mod fit_xbar;
 mod fragmenter;
 mod ports;
 mod shrinker;
@@ -10,6 +12,7 @@ mod width;
 mod xbar;
 
 pub use buffer::{buffer_down, buffer_up};
+pub use fit::fits;
 pub use fragmenter::{fragmenter_down, fragmenter_up};
 pub use shrinker::{shrinker_down, shrinker_up};
 pub use width::{width_down, width_up};

@@ -1,4 +1,4 @@
-ghost use Rattle.std.specs.Prelude.{◌≡◌};
+ghost use Rattle.std.specs.Prelude.{◌≡◌, ◌≤◌, length, drop};
 ghost use Rattle.std.specs.Option.{option_copied};
 ghost use Rattle.tl_rules.specs.Refusals as spec;
 
@@ -10,4 +10,12 @@ pub fn only<P>(ports: &[P]) -> Option<&P>
         [port] => Some(port),
         _ => None,
     }
+}
+
+/// What stands behind the first items of a list.
+pub fn behind<T>(items: &[T], count: usize) -> &[T]
+    requires { count ≤ length items.now }
+    ensures { result.now ≡ drop count items.now }
+{
+    &items[count..]
 }
