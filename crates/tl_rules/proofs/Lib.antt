@@ -2,3 +2,4 @@ pub mod Fragmenting
 pub mod Crossing
 pub mod Zips
 pub mod Walks
+pub mod Shifting

@@ -4,3 +4,4 @@ pub mod Fragments
 pub mod Shrinks
 pub mod Crossbars
 pub mod Fits
+pub mod ShiftedIds
