@@ -45,8 +45,8 @@ all_apart lists ranges inside apart i j d before within =
     let long = zip_length AreInside lists ranges inside in
     let none : IdRange = record { start = 0; end = 0 } in
     other_ids (get_or lists i d) (get_or lists j d) (get_or ranges i none) (get_or ranges j none)
-      (zip_at AreInside lists ranges i d none inside (omega arith)) (zip_at AreInside lists ranges j d none inside within)
-      (apart i j none before (omega arith))
+    (zip_at AreInside lists ranges i d none inside (omega arith)) (zip_at AreInside lists ranges j d none inside within)
+    (apart i j none before (omega arith))
 
 ranges_inside : (ins : List DownPort) → AllZip AreInside (shifted_masters ins (input_ranges ins)) (input_ranges ins)
 ranges_inside ins = all_inside ins (input_ranges ins) (ranges_room (map id_count ins) (map rounded (map id_count ins)) 0)

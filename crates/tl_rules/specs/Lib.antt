@@ -5,3 +5,4 @@ pub mod Shrinks
 pub mod Crossbars
 pub mod Fits
 pub mod ShiftedIds
+pub mod Standard

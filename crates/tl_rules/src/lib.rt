@@ -9,6 +9,8 @@ mod fragmenter;
 mod laws;
 mod ports;
 mod shrinker;
+mod sides;
+mod standard;
 mod width;
 mod xbar;
 
@@ -17,5 +19,11 @@ pub use fit::fits;
 pub use fragmenter::{fragmenter_down, fragmenter_up};
 pub use laws::shifted_ids_law;
 pub use shrinker::{shrinker_down, shrinker_up};
+pub use sides::{
+    BufferRule, BufferSides, FragmenterRule, FragmenterSides, ShrinkerRule, ShrinkerSides,
+    WidthRule, WidthSides, XbarRule, XbarSides, buffer_rule, fragmenter_rule, shrinker_rule,
+    width_rule, xbar_rule,
+};
+pub use standard::standard_rules;
 pub use width::{width_down, width_up};
 pub use xbar::{xbar_down, xbar_up};
