@@ -1,0 +1,5 @@
+pub mod Fragmenting
+pub mod Crossing
+pub mod Zips
+pub mod Walks
+pub mod Shifting

@@ -1,0 +1,8 @@
+use Rattle.std.proofs.Common.{◌≡◌, drop}
+use Rattle.tl_rules.specs.Fits.{all_zip, adapter_fits, edge_at}
+use Rattle.tl_rules.proofs.fit.adapters_fit.Given as goal
+
+abbrev pub invariant-loop-place : goal.invariant-loop-place
+invariant-loop-place l =
+    all_zip (λ above below. adapter_fits l.template l.args (edge_at l.down l.up above) (edge_at l.down l.up below)) (drop l.place l.ins) (drop l.place l.outs)
+    ≡ all_zip (λ above below. adapter_fits l.template l.args (edge_at l.down l.up above) (edge_at l.down l.up below)) l.ins l.outs

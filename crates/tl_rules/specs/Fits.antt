@@ -1,0 +1,149 @@
+-- Whether what is built for a node fits the ports of its edges: it can carry what they agree on.
+use Rattle.std.specs.Prelude.{ℕ, List, [], ◌∷◌, map, length, Bool, true, false, ◌&&◌, ◌||◌, ◌==◌, nat_lt, nat_le, cond, Option, Some, None, slice_get, unwrap_or}
+use Rattle.std.specs.List.{list_all, flat_map}
+use Rattle.dip_sets.specs.Sets.{Pattern}
+use Rattle.dip_sets.specs.SizeRanges.{SizeRange, size_range, has_size, is_within, meet}
+use Rattle.tl_params.specs.Operations.{is_nexus}
+use Rattle.tl_params.specs.declared.ops.Ops.{Ops}
+use Rattle.tl_params.specs.declared.ops.Template.{Template}
+use Rattle.tl_params.specs.declared.ops.Template.TheVariants.{Buffer, Width, Fragmenter, Shrinker, Xbar}
+use Rattle.tl_params.specs.declared.ports.Master.{Master}
+use Rattle.tl_params.specs.declared.ports.Slave.{Slave}
+use Rattle.tl_params.specs.declared.ports.DownPort.{DownPort}
+use Rattle.tl_params.specs.declared.ports.UpPort.{UpPort}
+use Rattle.tl_rules.specs.Adapters.{is_width}
+use Rattle.tl_rules.specs.Fragments.{fragment_arguments}
+use Rattle.tl_rules.specs.Shrinks.{shrink_argument}
+use Rattle.tl_rules.specs.Crossbars.{id_count, is_id_count, input_ranges, joined_masters}
+
+-- two lists are equally long, and a test holds at each place
+abbrev pub all_zip : {A B : Type 0} → (A → B → Bool) → List A → List B → Bool
+all_zip test [] [] = true
+all_zip test [] (y ∷ ys) = false
+all_zip test (x ∷ xs) [] = false
+all_zip test (x ∷ xs) (y ∷ ys) = test x y && all_zip test xs ys
+
+-- ---- slaves: both edges show the same ones in the same order
+
+abbrev pub is_same_set : Pattern → Pattern → Bool
+is_same_set s t = s.base == t.base && s.mask == t.mask
+
+abbrev pub is_same_slave : Slave → Slave → Bool
+is_same_slave s t = s.node == t.node && s.port == t.port && all_zip is_same_set s.addresses t.addresses
+
+-- ---- supports: the in edge promises no more than the out edge
+
+-- sizes that are cut: those up to a piece go on as they are, and larger ones as pieces. The pieces are the sizes from 1 to a piece.
+abbrev pub fits_pieces : SizeRange → SizeRange → SizeRange → Bool
+fits_pieces pieces s t = is_within (meet s pieces) t && (nat_le s.max pieces.max || has_size t pieces.max)
+
+-- sizes that are cut into pieces, or where there are none pass whole
+abbrev pub sizes_fit : Option SizeRange → SizeRange → SizeRange → Bool
+sizes_fit None s t = is_within s t
+sizes_fit (Some pieces) s t = fits_pieces pieces s t
+
+abbrev pub ops_fit : Option SizeRange → Ops → Ops → Bool
+ops_fit pieces s t =
+    sizes_fit pieces s.get t.get
+    && sizes_fit pieces s.put_full t.put_full
+    && sizes_fit pieces s.put_partial t.put_partial
+    && is_within s.arithmetic t.arithmetic
+    && is_within s.logical t.logical
+    && is_within s.intent t.intent
+
+abbrev pub slave_fits : Option SizeRange → Slave → Slave → Bool
+slave_fits pieces s t = is_same_slave s t && ops_fit pieces s.supports t.supports
+
+abbrev pub slaves_fit : Option SizeRange → List Slave → List Slave → Bool
+slaves_fit pieces shown real = all_zip (slave_fits pieces) shown real
+
+-- ---- ids
+
+abbrev pub has_same_ids : Master → Master → Bool
+has_same_ids a b = a.ids.start == b.ids.start && a.ids.end == b.ids.end
+
+abbrev pub same_ids : List Master → List Master → Bool
+same_ids masters others = all_zip has_same_ids masters others
+
+-- one master, with so many ids from 0 on
+abbrev pub has_only_ids : ℕ → List Master → Bool
+has_only_ids ids [] = false
+has_only_ids ids (m ∷ []) = m.ids.start == 0 && m.ids.end == ids
+has_only_ids ids (m ∷ other ∷ more) = false
+
+-- ---- the edges on both sides
+
+-- the ports of an edge
+pub record EdgePorts : Type 0 where
+  pub down : DownPort
+  pub up : UpPort
+
+abbrev pub edge_ports : DownPort → UpPort → EdgePorts
+edge_ports down up = record { down = down; up = up }
+
+-- an adapter between an in edge and an out edge. Where it has arguments they must be right: those of a fragmenter, whose pieces have at
+-- least the bytes of one beat, and that of a shrinker.
+abbrev pub fragments_fit : Option SizeRange → EdgePorts → EdgePorts → Bool
+fragments_fit None above below = false
+fragments_fit (Some fragments) above below =
+    slaves_fit (Some (size_range 1 fragments.min)) above.up.slaves below.up.slaves
+    && same_ids above.down.masters below.down.masters
+    && above.up.beat == below.up.beat
+    && nat_le below.up.beat fragments.min
+
+abbrev pub shrinks_fit : Option ℕ → EdgePorts → EdgePorts → Bool
+shrinks_fit None above below = false
+shrinks_fit (Some ids) above below =
+    slaves_fit None above.up.slaves below.up.slaves
+    && has_only_ids ids below.down.masters
+    && above.up.beat == below.up.beat
+
+abbrev pub adapter_fits : Template → List ℕ → EdgePorts → EdgePorts → Bool
+adapter_fits Buffer args above below =
+    slaves_fit None above.up.slaves below.up.slaves
+    && same_ids above.down.masters below.down.masters
+    && above.up.beat == below.up.beat
+adapter_fits Width args above below =
+    slaves_fit None above.up.slaves below.up.slaves
+    && same_ids above.down.masters below.down.masters
+    && is_width above.up.beat
+    && is_width below.up.beat
+adapter_fits Fragmenter args above below = fragments_fit (fragment_arguments args) above below
+adapter_fits Shrinker args above below = shrinks_fit (shrink_argument args) above below
+adapter_fits Xbar args above below = false
+
+-- each input of a crossbar shows the slaves of all outputs in order
+abbrev pub inputs_fit : List UpPort → List UpPort → Bool
+inputs_fit ins outs = list_all (λ input. slaves_fit None input.slaves (flat_map (λ output. output.slaves) outs)) ins
+
+-- each output has the ids of all inputs in order, moved as the crossbar moves them; it can move 1 to 1,024 ids of at most 1,024 inputs
+abbrev pub outputs_fit : List DownPort → List DownPort → Bool
+outputs_fit ins outs =
+    nat_le (length ins) 1024
+    && list_all (λ input. is_id_count (id_count input)) ins
+    && list_all (λ output. same_ids (joined_masters ins (input_ranges ins)) output.masters) outs
+
+-- ---- by the numbers of edges
+
+-- edges that have ports
+abbrev pub are_edges : List DownPort → List UpPort → List ℕ → Bool
+are_edges down up edges = list_all (λ edge. nat_lt edge (length down) && nat_lt edge (length up)) edges
+
+abbrev pub down_at : List DownPort → ℕ → DownPort
+down_at down edge = unwrap_or (slice_get down edge) (record { masters = [] })
+
+abbrev pub up_at : List UpPort → ℕ → UpPort
+up_at up edge = unwrap_or (slice_get up edge) (record { slaves = []; beat = 0 })
+
+abbrev pub edge_at : List DownPort → List UpPort → ℕ → EdgePorts
+edge_at down up edge = edge_ports (down_at down edge) (up_at up edge)
+
+-- an adapter has as many out edges as in edges, and stands between each two of them; a crossbar between all
+abbrev pub template_fits : Template → List ℕ → List ℕ → List ℕ → List DownPort → List UpPort → Bool
+template_fits template args ins outs down up =
+    cond (is_nexus template)
+    (inputs_fit (map (up_at up) ins) (map (up_at up) outs) && outputs_fit (map (down_at down) ins) (map (down_at down) outs))
+    (all_zip (λ above below. adapter_fits template args (edge_at down up above) (edge_at down up below)) ins outs)
+
+abbrev pub fits : Template → List ℕ → List ℕ → List ℕ → List DownPort → List UpPort → Bool
+fits template args ins outs down up = are_edges down up ins && are_edges down up outs && template_fits template args ins outs down up

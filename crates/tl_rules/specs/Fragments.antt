@@ -1,0 +1,69 @@
+-- What fragmenters state. A fragmenter cuts gets and puts of more than a piece into pieces; atomics and intents pass whole.
+use Rattle.std.specs.Prelude.{ℕ, List, [], ◌∷◌, map, Bool, ◌==◌, nat_lt, cond, max, min, IsTrue, Option, Some, None, Result, Ok}
+use Rattle.dip_sets.specs.SizeRanges.{SizeRange, size_range, is_size_pair, has_size, meet}
+use Rattle.dip_rule.specs.Stated.{StatedAnswer}
+use Rattle.tl_params.specs.declared.ops.Ops.{Ops}
+use Rattle.tl_params.specs.declared.ports.Master.{Master}
+use Rattle.tl_params.specs.declared.ports.Slave.{Slave}
+use Rattle.tl_params.specs.declared.ports.DownPort.{DownPort}
+use Rattle.tl_params.specs.declared.ports.UpPort.{UpPort}
+use Rattle.tl_rules.specs.Refusals.{only, with_arguments, with_port}
+
+-- two arguments, the bytes of a piece and of the largest transfer: powers of two in order, at most 256. They are seen as the sizes from
+-- the one to the other.
+abbrev pub fragment_arguments : List ℕ → Option SizeRange
+fragment_arguments [] = None
+fragment_arguments (piece ∷ []) = None
+fragment_arguments (piece ∷ largest ∷ []) = cond (is_size_pair piece largest) (Some (size_range piece largest)) None
+fragment_arguments (piece ∷ largest ∷ other ∷ more) = None
+
+abbrev pub AreFragments : SizeRange → Type 0
+AreFragments fragments = IsTrue (is_size_pair fragments.min fragments.max)
+
+-- sizes behind the fragmenter: a larger one than a piece arrives as pieces
+abbrev pub cut : ℕ → SizeRange → SizeRange
+cut piece s = cond (s.max == 0) s (cond (nat_lt piece s.min) (size_range piece piece) (size_range s.min (min s.max piece)))
+
+-- sizes before the fragmenter: all up to the largest transfer where pieces can go on, and else those that need no cutting
+abbrev pub widened : SizeRange → SizeRange → SizeRange
+widened fragments s = cond (has_size s fragments.min) (size_range s.min (max s.max fragments.max)) (meet s (size_range 1 fragments.min))
+
+abbrev pub cut_ops : ℕ → Ops → Ops
+cut_ops piece ops =
+    record {
+      get = cut piece ops.get;
+      put_full = cut piece ops.put_full;
+      put_partial = cut piece ops.put_partial;
+      arithmetic = ops.arithmetic;
+      logical = ops.logical;
+      intent = ops.intent;
+    }
+
+abbrev pub widened_ops : SizeRange → Ops → Ops
+widened_ops fragments ops =
+    record {
+      get = widened fragments ops.get;
+      put_full = widened fragments ops.put_full;
+      put_partial = widened fragments ops.put_partial;
+      arithmetic = ops.arithmetic;
+      logical = ops.logical;
+      intent = ops.intent;
+    }
+
+abbrev pub cut_master : ℕ → Master → Master
+cut_master piece m = record { node = m.node; port = m.port; ids = m.ids; emits = cut_ops piece m.emits }
+
+abbrev pub widened_slave : SizeRange → Slave → Slave
+widened_slave fragments s = record { node = s.node; port = s.port; addresses = s.addresses; supports = widened_ops fragments s.supports }
+
+abbrev pub cut_port : ℕ → DownPort → DownPort
+cut_port piece port = record { masters = map (cut_master piece) port.masters }
+
+abbrev pub widened_port : SizeRange → UpPort → UpPort
+widened_port fragments port = record { slaves = map (widened_slave fragments) port.slaves; beat = port.beat }
+
+abbrev pub fragmenter_down : StatedAnswer DownPort
+fragmenter_down args ins = with_arguments (fragment_arguments args) (λ fragments. with_port (only ins) (λ port. Ok (cut_port fragments.min port)))
+
+abbrev pub fragmenter_up : StatedAnswer UpPort
+fragmenter_up args outs = with_arguments (fragment_arguments args) (λ fragments. with_port (only outs) (λ port. Ok (widened_port fragments port)))

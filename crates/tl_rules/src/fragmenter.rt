@@ -1,0 +1,175 @@
+ghost use Rattle.std.specs.Prelude.{◌≡◌, map, IfOk, IfSome};
+ghost use Rattle.dip_rule.specs.Stated.{Answers};
+ghost use Rattle.dip_sets.specs.SizeRanges.{size_range};
+ghost use Rattle.tl_rules.specs.Fragments as spec;
+
+use crate::ports::only;
+use dip_lists::{Duplicate, Items, Memory};
+use dip_rule::RuleFault;
+use dip_sets::Sizes;
+use std::alloc::Global;
+use tl_params::{Args, DownPort, Master, Masters, Ops, Slave, Slaves, UpPort};
+
+/// The sizes from a piece to the largest transfer, where the arguments state them.
+pub fn fragment_arguments(args: &Args) -> Option<Sizes>
+    ensures value { result ≡ spec.fragment_arguments args.now }
+    ensures sizes { IfSome result spec.AreFragments }
+{
+    match args.as_slice() {
+        [piece, largest] => Sizes::new(*piece, *largest),
+        _ => None,
+    }
+}
+
+/// The sizes that need no cutting: those from 1 to a piece.
+pub fn up_to_piece(fragments: &Sizes) -> Sizes
+    requires { spec.AreFragments fragments.now }
+    ensures { result ≡ size_range 1 fragments.now.min }
+{
+    match Sizes::new(1, fragments.min()) {
+        Some(sizes) => sizes,
+        None => *fragments,
+    }
+}
+
+// Sizes behind the fragmenter.
+fn cut(fragments: &Sizes, sizes: &Sizes) -> Sizes
+    requires { spec.AreFragments fragments.now }
+    ensures { result ≡ spec.cut fragments.now.min sizes.now }
+{
+    if sizes.max() == 0 {
+        return *sizes;
+    }
+    let uncut = up_to_piece(fragments);
+    if fragments.min() < sizes.min() {
+        return fragments.meet(&uncut);
+    }
+    sizes.meet(&uncut)
+}
+
+// Sizes before the fragmenter.
+fn widened(fragments: &Sizes, sizes: &Sizes) -> Sizes
+    requires { spec.AreFragments fragments.now }
+    ensures { result ≡ spec.widened fragments.now sizes.now }
+{
+    if sizes.contains(fragments.min()) {
+        return sizes.cover(fragments);
+    }
+    sizes.meet(&up_to_piece(fragments))
+}
+
+fn cut_ops(fragments: &Sizes, ops: &Ops) -> Ops
+    requires { spec.AreFragments fragments.now }
+    ensures { result ≡ spec.cut_ops fragments.now.min ops.now }
+{
+    Ops {
+        get: cut(fragments, &ops.get),
+        put_full: cut(fragments, &ops.put_full),
+        put_partial: cut(fragments, &ops.put_partial),
+        arithmetic: ops.arithmetic,
+        logical: ops.logical,
+        intent: ops.intent,
+    }
+}
+
+fn widened_ops(fragments: &Sizes, ops: &Ops) -> Ops
+    requires { spec.AreFragments fragments.now }
+    ensures { result ≡ spec.widened_ops fragments.now ops.now }
+{
+    Ops {
+        get: widened(fragments, &ops.get),
+        put_full: widened(fragments, &ops.put_full),
+        put_partial: widened(fragments, &ops.put_partial),
+        arithmetic: ops.arithmetic,
+        logical: ops.logical,
+        intent: ops.intent,
+    }
+}
+
+fn cut_masters(alloc: Global, fragments: &Sizes, masters: &[Master]) -> Result<Masters, Memory>
+    requires { spec.AreFragments fragments.now }
+    ensures { IfOk result (λ cut. cut ≡ map (spec.cut_master fragments.now.min) masters.now) }
+{
+    let mut cut = Items::new(alloc);
+    for master in masters {
+        cut.push(Master {
+            node: master.node,
+            port: master.port,
+            ids: master.ids,
+            emits: cut_ops(fragments, &master.emits),
+        })?;
+    }
+    Ok(cut)
+}
+
+fn widened_slave(alloc: Global, fragments: &Sizes, slave: &Slave) -> Result<Slave, Memory>
+    requires { spec.AreFragments fragments.now }
+    ensures { IfOk result (λ wide. wide ≡ spec.widened_slave fragments.now slave.now) }
+{
+    Ok(Slave {
+        node: slave.node,
+        port: slave.port,
+        addresses: slave.addresses.copy(alloc)?,
+        supports: widened_ops(fragments, &slave.supports),
+    })
+}
+
+fn widened_slaves(alloc: Global, fragments: &Sizes, slaves: &[Slave]) -> Result<Slaves, Memory>
+    requires { spec.AreFragments fragments.now }
+    ensures { IfOk result (λ wide. wide ≡ map (spec.widened_slave fragments.now) slaves.now) }
+{
+    let mut wide = Items::new(alloc);
+    for slave in slaves {
+        wide.push(widened_slave(alloc, fragments, slave)?)?;
+    }
+    Ok(wide)
+}
+
+fn cut_port(alloc: Global, fragments: &Sizes, port: &DownPort) -> Result<DownPort, Memory>
+    requires { spec.AreFragments fragments.now }
+    ensures { IfOk result (λ cut. cut ≡ spec.cut_port fragments.now.min port.now) }
+{
+    let masters = cut_masters(alloc, fragments, port.masters.as_slice())?;
+    Ok(DownPort { masters })
+}
+
+fn widened_port(alloc: Global, fragments: &Sizes, port: &UpPort) -> Result<UpPort, Memory>
+    requires { spec.AreFragments fragments.now }
+    ensures { IfOk result (λ wide. wide ≡ spec.widened_port fragments.now port.now) }
+{
+    let slaves = widened_slaves(alloc, fragments, port.slaves.as_slice())?;
+    Ok(UpPort {
+        slaves,
+        beat: port.beat,
+    })
+}
+
+/// What a fragmenter shows below: the masters above it, whose gets and puts arrive as pieces. Arguments other
+/// than the bytes of a piece and of the largest transfer, powers of two in order and at most 256, are refused
+/// with 1, another number of ports than one with 2.
+pub fn fragmenter_down(alloc: Global, args: &Args, ins: &[DownPort]) -> Result<DownPort, RuleFault>
+    ensures { Answers (spec.fragmenter_down args.now ins.now) result }
+{
+    let Some(fragments) = fragment_arguments(args) else {
+        return Err(RuleFault::Refused(1));
+    };
+    match only(ins) {
+        Some(port) => Ok(cut_port(alloc, &fragments, port)?),
+        None => Err(RuleFault::Refused(2)),
+    }
+}
+
+/// What a fragmenter shows above: the slaves below it, which take gets and puts up to the largest transfer
+/// where they take a piece. Arguments other than the bytes of a piece and of the largest transfer, powers of
+/// two in order and at most 256, are refused with 1, another number of ports than one with 2.
+pub fn fragmenter_up(alloc: Global, args: &Args, outs: &[UpPort]) -> Result<UpPort, RuleFault>
+    ensures { Answers (spec.fragmenter_up args.now outs.now) result }
+{
+    let Some(fragments) = fragment_arguments(args) else {
+        return Err(RuleFault::Refused(1));
+    };
+    match only(outs) {
+        Some(port) => Ok(widened_port(alloc, &fragments, port)?),
+        None => Err(RuleFault::Refused(2)),
+    }
+}

@@ -1,0 +1,215 @@
+ghost use Rattle.std.specs.Prelude.{⊤, ◌≡◌, map, IfOk};
+ghost use Rattle.dip_rule.specs.Stated.{Answers, stated_rule};
+ghost use Rattle.tl_rules.specs.Adapters.{buffer_down, buffer_up, width_down, width_up};
+ghost use Rattle.tl_rules.specs.Crossbars.{xbar_down, xbar_up};
+ghost use Rattle.tl_rules.specs.Fragments.{fragmenter_down, fragmenter_up};
+ghost use Rattle.tl_rules.specs.Shrinks.{shrinker_down, shrinker_up};
+
+use crate::buffer::{buffer_down, buffer_up};
+use crate::fragmenter::{fragmenter_down, fragmenter_up};
+use crate::shrinker::{shrinker_down, shrinker_up};
+use crate::width::{width_down, width_up};
+use crate::xbar::{xbar_down, xbar_up};
+use dip_rule::{AskedDown, AskedUp, RuleFault, Says, Stored};
+use std::alloc::Global;
+use tl_params::{Args, DownPort, UpPort};
+
+/// Both sides of the rule of a buffer, with the memory that its answers take.
+#[derive(Drop)]
+pub struct BufferSides {
+    alloc: Global,
+}
+
+impl Says for BufferSides {
+    ghost down = { buffer_down };
+
+    ghost up = { buffer_up };
+}
+
+impl AskedDown for BufferSides {
+    ghost may = { λ s args ins. ⊤ };
+
+    ghost gives = { λ s args ins r. Answers (buffer_down args ins) r };
+
+    fn ask_down(&self, args: &Args, ins: &[DownPort]) -> Result<DownPort, RuleFault> {
+        buffer_down(self.alloc, args, ins)
+    }
+}
+
+impl AskedUp for BufferSides {
+    ghost may = { λ s args outs. ⊤ };
+
+    ghost gives = { λ s args outs r. Answers (buffer_up args outs) r };
+
+    fn ask_up(&self, args: &Args, outs: &[UpPort]) -> Result<UpPort, RuleFault> {
+        buffer_up(self.alloc, args, outs)
+    }
+}
+
+/// The rule of a buffer.
+pub type BufferRule = Stored<BufferSides, BufferSides, BufferSides>;
+
+/// The rule of a buffer, which takes memory for its answers from `alloc`.
+pub fn buffer_rule(alloc: Global) -> BufferRule {
+    Stored::new(BufferSides { alloc }, BufferSides { alloc })
+}
+
+/// Both sides of the rule of a width adapter, with the memory that its answers take.
+#[derive(Drop)]
+pub struct WidthSides {
+    alloc: Global,
+}
+
+impl Says for WidthSides {
+    ghost down = { width_down };
+
+    ghost up = { width_up };
+}
+
+impl AskedDown for WidthSides {
+    ghost may = { λ s args ins. ⊤ };
+
+    ghost gives = { λ s args ins r. Answers (width_down args ins) r };
+
+    fn ask_down(&self, args: &Args, ins: &[DownPort]) -> Result<DownPort, RuleFault> {
+        width_down(self.alloc, args, ins)
+    }
+}
+
+impl AskedUp for WidthSides {
+    ghost may = { λ s args outs. ⊤ };
+
+    ghost gives = { λ s args outs r. Answers (width_up args outs) r };
+
+    fn ask_up(&self, args: &Args, outs: &[UpPort]) -> Result<UpPort, RuleFault> {
+        width_up(self.alloc, args, outs)
+    }
+}
+
+/// The rule of a width adapter.
+pub type WidthRule = Stored<WidthSides, WidthSides, WidthSides>;
+
+/// The rule of a width adapter, which takes memory for its answers from `alloc`.
+pub fn width_rule(alloc: Global) -> WidthRule {
+    Stored::new(WidthSides { alloc }, WidthSides { alloc })
+}
+
+/// Both sides of the rule of a fragmenter, with the memory that its answers take.
+#[derive(Drop)]
+pub struct FragmenterSides {
+    alloc: Global,
+}
+
+impl Says for FragmenterSides {
+    ghost down = { fragmenter_down };
+
+    ghost up = { fragmenter_up };
+}
+
+impl AskedDown for FragmenterSides {
+    ghost may = { λ s args ins. ⊤ };
+
+    ghost gives = { λ s args ins r. Answers (fragmenter_down args ins) r };
+
+    fn ask_down(&self, args: &Args, ins: &[DownPort]) -> Result<DownPort, RuleFault> {
+        fragmenter_down(self.alloc, args, ins)
+    }
+}
+
+impl AskedUp for FragmenterSides {
+    ghost may = { λ s args outs. ⊤ };
+
+    ghost gives = { λ s args outs r. Answers (fragmenter_up args outs) r };
+
+    fn ask_up(&self, args: &Args, outs: &[UpPort]) -> Result<UpPort, RuleFault> {
+        fragmenter_up(self.alloc, args, outs)
+    }
+}
+
+/// The rule of a fragmenter.
+pub type FragmenterRule = Stored<FragmenterSides, FragmenterSides, FragmenterSides>;
+
+/// The rule of a fragmenter, which takes memory for its answers from `alloc`.
+pub fn fragmenter_rule(alloc: Global) -> FragmenterRule {
+    Stored::new(FragmenterSides { alloc }, FragmenterSides { alloc })
+}
+
+/// Both sides of the rule of a shrinker, with the memory that its answers take.
+#[derive(Drop)]
+pub struct ShrinkerSides {
+    alloc: Global,
+}
+
+impl Says for ShrinkerSides {
+    ghost down = { shrinker_down };
+
+    ghost up = { shrinker_up };
+}
+
+impl AskedDown for ShrinkerSides {
+    ghost may = { λ s args ins. ⊤ };
+
+    ghost gives = { λ s args ins r. Answers (shrinker_down args ins) r };
+
+    fn ask_down(&self, args: &Args, ins: &[DownPort]) -> Result<DownPort, RuleFault> {
+        shrinker_down(self.alloc, args, ins)
+    }
+}
+
+impl AskedUp for ShrinkerSides {
+    ghost may = { λ s args outs. ⊤ };
+
+    ghost gives = { λ s args outs r. Answers (shrinker_up args outs) r };
+
+    fn ask_up(&self, args: &Args, outs: &[UpPort]) -> Result<UpPort, RuleFault> {
+        shrinker_up(self.alloc, args, outs)
+    }
+}
+
+/// The rule of a shrinker.
+pub type ShrinkerRule = Stored<ShrinkerSides, ShrinkerSides, ShrinkerSides>;
+
+/// The rule of a shrinker, which takes memory for its answers from `alloc`.
+pub fn shrinker_rule(alloc: Global) -> ShrinkerRule {
+    Stored::new(ShrinkerSides { alloc }, ShrinkerSides { alloc })
+}
+
+/// Both sides of the rule of a crossbar, with the memory that its answers take.
+#[derive(Drop)]
+pub struct XbarSides {
+    alloc: Global,
+}
+
+impl Says for XbarSides {
+    ghost down = { xbar_down };
+
+    ghost up = { xbar_up };
+}
+
+impl AskedDown for XbarSides {
+    ghost may = { λ s args ins. ⊤ };
+
+    ghost gives = { λ s args ins r. Answers (xbar_down args ins) r };
+
+    fn ask_down(&self, args: &Args, ins: &[DownPort]) -> Result<DownPort, RuleFault> {
+        xbar_down(self.alloc, args, ins)
+    }
+}
+
+impl AskedUp for XbarSides {
+    ghost may = { λ s args outs. ⊤ };
+
+    ghost gives = { λ s args outs r. Answers (xbar_up args outs) r };
+
+    fn ask_up(&self, args: &Args, outs: &[UpPort]) -> Result<UpPort, RuleFault> {
+        xbar_up(self.alloc, args, outs)
+    }
+}
+
+/// The rule of a crossbar.
+pub type XbarRule = Stored<XbarSides, XbarSides, XbarSides>;
+
+/// The rule of a crossbar, which takes memory for its answers from `alloc`.
+pub fn xbar_rule(alloc: Global) -> XbarRule {
+    Stored::new(XbarSides { alloc }, XbarSides { alloc })
+}
