@@ -1,2 +1,3 @@
 pub mod Disjointness
-pub mod Only
+pub mod Stars
+pub mod Refusals

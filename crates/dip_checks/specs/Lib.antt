@@ -1,4 +1,3 @@
-pub mod Edges
-pub mod Ports
+pub mod Weights
 pub mod Checks
 pub mod Apart

@@ -1,14 +1,7 @@
 use dip_graph::Edges;
-use tl_params::{DownPorts, UpPorts};
+use dip_negotiate::Solution;
 
-/// The parameters on which the ports of a design agree: a down port and an up port for each edge.
-#[derive(Drop)]
-pub struct Solution {
-    pub down: DownPorts,
-    pub up: UpPorts,
-}
-
-/// What an accepted design has.
+/// What an accepted design has: its edges, and what goes down and up each of them.
 #[derive(Drop)]
 pub struct Accepted {
     pub edges: Edges,
