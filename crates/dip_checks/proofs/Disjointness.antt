@@ -1,5 +1,6 @@
 -- Edges that pass check 14 have no address in two sets.
-use Rattle.std.proofs.Common.{ℕ, ◌≡◌, ◌+◌, List, [], ◌∷◌, Bool, true, false, ◌||◌, cond, Some, None, refl, sym, ◌∙◌, ap, arith}
+use Rattle.std.proofs.Common.{ℕ, ◌≡◌, ◌+◌, List, [], ◌∷◌, Bool, true, false, ◌||◌, cond, Some, None, Result, Ok, Err, refl, sym, ◌∙◌, ap, arith}
+use Rattle.std.specs.Prelude.{OnOk}
 use Rattle.std.specs.List.{All, AllPairs, list_any}
 use Rattle.std.proofs.lemmas.List.Elements.{All-cons}
 use Rattle.std.proofs.lemmas.List.Kept.{AllPairs-cons}
@@ -38,3 +39,8 @@ apart_from number (up ∷ ups) h =
 
 pub edges_apart : (ups : List UpPort) → first (overlapping_edges ups) ≡ None → All HasDisjointSets ups
 edges_apart ups h = apart_from 0 ups h
+
+-- what holds at all holds on success
+pub on_ok : {T E : Type 0} (Q : Type 0) (r : Result T E) → Q → OnOk r Q
+on_ok Q (Ok x) h = h
+on_ok Q (Err e) h = tt

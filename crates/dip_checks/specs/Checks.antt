@@ -20,7 +20,8 @@ use Rattle.dip_graph.specs.declared.design.Design.{Design}
 use Rattle.dip_graph.specs.declared.edges.Edge.{Edge}
 use Rattle.dip_rule.specs.Stated.{StatedRule, template_of}
 use Rattle.dip_negotiate.specs.Passes.{Refusal}
-use Rattle.dip_negotiate.specs.Negotiation.{downs, ups, IsOnlySolution}
+use Rattle.dip_negotiate.specs.declared.solution.Solution.{Solution}
+use Rattle.dip_negotiate.specs.Negotiation.{downs, ups}
 use Rattle.dip_negotiate.specs.Places.{is_nexus_node}
 use Rattle.dip_stars.specs.Edges.{design_counts, waiting, unfilled, excess, edges_of}
 use Rattle.tl_rules.specs.Fits.{fits, up_at}
@@ -184,19 +185,21 @@ abbrev pub ports_of : {P : Type 0} → Result (List P) Refusal → List P
 ports_of (Ok ports) = ports
 ports_of (Err refused) = []
 
-abbrev pub downs_in : List StatedRule → Design → List DownPort
-downs_in rules design = ports_of (downs rules design (edges_in rules design))
+-- what goes down and up all edges
+abbrev pub solution_of : List StatedRule → Design → List Edge → Solution
+solution_of rules design edges = record { down = ports_of (downs rules design edges); up = ports_of (ups rules design edges) }
 
-abbrev pub ups_in : List StatedRule → Design → List UpPort
-ups_in rules design = ports_of (ups rules design (edges_in rules design))
+-- the checks of a design with these edges
+abbrev pub port_checks : List StatedRule → Design → List Edge → List Check
+port_checks rules design edges =
+    rule_checks rules design edges
+    ++ edge_checks (solution_of rules design edges).down (solution_of rules design edges).up
+    ++ fit_checks rules design.nodes edges (solution_of rules design edges).down (solution_of rules design edges).up
 
+-- the checks 5 to 18
 abbrev pub design_checks : List StatedRule → Design → List Check
-design_checks rules design =
-    graph_checks rules design
-    ++ rule_checks rules design (edges_in rules design)
-    ++ edge_checks (downs_in rules design) (ups_in rules design)
-    ++ fit_checks rules design.nodes (edges_in rules design) (downs_in rules design) (ups_in rules design)
+design_checks rules design = graph_checks rules design ++ port_checks rules design (edges_in rules design)
 
 -- what a design has where its checks pass
 abbrev pub accepted_of : List StatedRule → Design → Accepted
-accepted_of rules design = record { edges = edges_in rules design; solution = record { down = downs_in rules design; up = ups_in rules design } }
+accepted_of rules design = record { edges = edges_in rules design; solution = solution_of rules design (edges_in rules design) }

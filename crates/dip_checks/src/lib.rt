@@ -3,8 +3,13 @@
 #![tactic(auto)]
 
 mod accepted;
+mod check;
+mod edges;
+mod fit;
 mod graph;
 mod rules;
 mod sets;
+mod weights;
 
 pub use accepted::Accepted;
+pub use check::check_design;
