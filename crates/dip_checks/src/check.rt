@@ -1,8 +1,8 @@
-ghost use Rattle.std.specs.Prelude.{◌≡◌, ◌<◌, ◌≤◌, ◌^◌, ◌++◌, length, None, map, IfOk, IfErr, OnOk, All};
+ghost use Rattle.std.specs.Prelude.{◌≡◌, ◌<◌, ◌≤◌, ◌^◌, ◌++◌, length, None, Ok, map, IfOk, IfErr, OnOk, All};
 ghost use Rattle.dip_lists.specs.First.{first_failing};
 ghost use Rattle.dip_graph.specs.Faults.{IsFaultOf};
 ghost use Rattle.dip_rule.specs.Stated.{stated_rule};
-ghost use Rattle.dip_negotiate.specs.Negotiation.{HasNodes, IsOnlySolution};
+ghost use Rattle.dip_negotiate.specs.Negotiation.{HasNodes, IsOnlySolution, downs, ups};
 ghost use Rattle.dip_checks.specs.Apart.{HasDisjointSets};
 ghost use Rattle.dip_checks.specs.Checks as spec;
 
@@ -49,6 +49,12 @@ fn solved(alloc: Global, rules: &Rules, design: &Design, edges: &[Edge]) -> Resu
     ensures value { IfOk result (λ solution. solution ≡ spec.solution_of (map (λ e. stated_rule e.kind e.template
         ((⟦<dyn Rule as Rule>⟧ e.rule.vtable).says_down e.rule.value)
         ((⟦<dyn Rule as Rule>⟧ e.rule.vtable).says_up e.rule.value)) rules.now.entries) design.now edges.now) }
+    ensures down { IfOk result (λ solution. downs (map (λ e. stated_rule e.kind e.template
+        ((⟦<dyn Rule as Rule>⟧ e.rule.vtable).says_down e.rule.value)
+        ((⟦<dyn Rule as Rule>⟧ e.rule.vtable).says_up e.rule.value)) rules.now.entries) design.now edges.now ≡ Ok solution.down) }
+    ensures up { IfOk result (λ solution. ups (map (λ e. stated_rule e.kind e.template
+        ((⟦<dyn Rule as Rule>⟧ e.rule.vtable).says_down e.rule.value)
+        ((⟦<dyn Rule as Rule>⟧ e.rule.vtable).says_up e.rule.value)) rules.now.entries) design.now edges.now ≡ Ok solution.up) }
     ensures passes { IfOk result (λ _. first_failing (spec.port_checks (map (λ e. stated_rule e.kind e.template
         ((⟦<dyn Rule as Rule>⟧ e.rule.vtable).says_down e.rule.value)
         ((⟦<dyn Rule as Rule>⟧ e.rule.vtable).says_up e.rule.value)) rules.now.entries) design.now edges.now) ≡ None) }
@@ -66,6 +72,7 @@ fn solved(alloc: Global, rules: &Rules, design: &Design, edges: &[Edge]) -> Resu
 ///
 /// `Fault::Check` names the first of the checks 5 to 18 that fails, with the number of the bind, the node or the edge
 /// at which it does, or how many edges there are, or the weight. After `Fault::Memory` nothing is known.
+#[tactic(auto, using(crate::proofs::Accepting::only_solution))]
 pub fn check_design(alloc: Global, design: &Design, rules: &Rules) -> Result<Accepted, Fault>
     requires nodes { length design.now.nodes ≤ 256 }
     requires binds { length design.now.binds ≤ 1024 }

@@ -1,4 +1,4 @@
-ghost use Rattle.std.specs.Prelude.{◌≡◌, ◌<◌, ◌^◌, None, length, map, IfOk, IfErr, OnOk};
+ghost use Rattle.std.specs.Prelude.{◌≡◌, ◌<◌, ◌≤◌, ◌^◌, None, length, map, IfOk, IfErr, OnOk};
 ghost use Rattle.dip_lists.specs.First.{first, first_failing, places};
 ghost use Rattle.dip_graph.specs.Faults.{IsFaultAt, IsFaultOf};
 ghost use Rattle.dip_graph.specs.Orders.{left_out};
@@ -132,6 +132,7 @@ fn edges_of(alloc: Global, design: &Design, rules: &Rules) -> Result<Edges, Faul
     ensures ok { IfOk result (λ edges. edges ≡ spec.edges_in (map (λ e. stated_rule e.kind e.template
         ((⟦<dyn Rule as Rule>⟧ e.rule.vtable).says_down e.rule.value)
         ((⟦<dyn Rule as Rule>⟧ e.rule.vtable).says_up e.rule.value)) rules.now.entries) design.now) }
+    ensures few { IfOk result (λ edges. length edges ≤ 1024) }
     ensures passes { IfOk result (λ _. first_failing (spec.star_checks (map (λ e. stated_rule e.kind e.template
         ((⟦<dyn Rule as Rule>⟧ e.rule.vtable).says_down e.rule.value)
         ((⟦<dyn Rule as Rule>⟧ e.rule.vtable).says_up e.rule.value)) rules.now.entries) design.now) ≡ None) }
@@ -153,6 +154,7 @@ pub fn graph(alloc: Global, design: &Design, rules: &Rules) -> Result<Edges, Fau
         ((⟦<dyn Rule as Rule>⟧ e.rule.vtable).says_down e.rule.value)
         ((⟦<dyn Rule as Rule>⟧ e.rule.vtable).says_up e.rule.value)) rules.now.entries) design.now) }
     ensures acyclic { IfOk result (λ _. first (left_out design.now) ≡ None) }
+    ensures few { IfOk result (λ edges. length edges ≤ 1024) }
     ensures passes { IfOk result (λ _. first_failing (spec.graph_checks (map (λ e. stated_rule e.kind e.template
         ((⟦<dyn Rule as Rule>⟧ e.rule.vtable).says_down e.rule.value)
         ((⟦<dyn Rule as Rule>⟧ e.rule.vtable).says_up e.rule.value)) rules.now.entries) design.now) ≡ None) }

@@ -1,4 +1,4 @@
-ghost use Rattle.std.specs.Prelude.{◌≡◌, ◌<◌, ◌^◌, None, length, map, IfOk, IfErr, OnOk};
+ghost use Rattle.std.specs.Prelude.{◌≡◌, ◌<◌, ◌≤◌, ◌^◌, None, length, map, IfOk, IfErr, OnOk};
 ghost use Rattle.std.specs.List.{list_any};
 ghost use Rattle.dip_lists.specs.First.{first};
 ghost use Rattle.dip_rule.specs.Stated.{stated_rule};
@@ -170,6 +170,7 @@ fn few_edges(counts: &[Counted]) -> Result<(), StarFault>
 /// `StarFault::StarsWait` names the least bind that isn't known after as many rounds as there are binds. Else
 /// `StarFault::Arity` names the least node that decides a negative number or whose binds don't sum up, and else
 /// `StarFault::TooManyEdges` says how many edges there are where these are more than 1,024.
+#[tactic(auto, using(crate::proofs::Few::few_edges))]
 pub fn resolve(alloc: Global, design: &Design, rules: &Rules) -> Result<Edges, StarFault>
     requires nodes { length design.now.nodes < 2 ^ 32 }
     requires binds { length design.now.binds < 2 ^ 32 }
@@ -178,6 +179,7 @@ pub fn resolve(alloc: Global, design: &Design, rules: &Rules) -> Result<Edges, S
     ensures passes { IfOk result (λ _. spec.AreResolved (map (λ e. stated_rule e.kind e.template ((⟦<dyn Rule as Rule>⟧ e.rule.vtable).says_down
         e.rule.value) ((⟦<dyn Rule as Rule>⟧ e.rule.vtable).says_up e.rule.value)) rules.now.entries) design.now.nodes (spec.design_counts (map (λ e. stated_rule e.kind e.template ((⟦<dyn Rule as Rule>⟧ e.rule.vtable).says_down
         e.rule.value) ((⟦<dyn Rule as Rule>⟧ e.rule.vtable).says_up e.rule.value)) rules.now.entries) design.now)) }
+    ensures few { IfOk result (λ edges. length edges ≤ 1024) }
     ensures err { IfErr result (spec.IsStarFault (map (λ e. stated_rule e.kind e.template ((⟦<dyn Rule as Rule>⟧ e.rule.vtable).says_down
         e.rule.value) ((⟦<dyn Rule as Rule>⟧ e.rule.vtable).says_up e.rule.value)) rules.now.entries) design.now.nodes (spec.design_counts (map (λ e. stated_rule e.kind e.template ((⟦<dyn Rule as Rule>⟧ e.rule.vtable).says_down
         e.rule.value) ((⟦<dyn Rule as Rule>⟧ e.rule.vtable).says_up e.rule.value)) rules.now.entries) design.now)) }
