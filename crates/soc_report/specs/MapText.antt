@@ -1,6 +1,6 @@
 -- The map of a design: its name and edges, then for each port of a source, by node and then by port, the slaves that it
 -- reaches, with the address sets of each and what it supports there.
-use Rattle.std.specs.Prelude.{ℕ, ◌+◌, ◌==◌, List, [], ◌∷◌, ◌++◌, length, codes, decimal, false, cond, Option, Some, None, slice_get}
+use Rattle.std.specs.Prelude.{ℕ, ◌+◌, ◌==◌, List, [], ◌∷◌, ◌++◌, length, codes, decimal, Bool, true, false, cond, Option, Some, None, slice_get}
 use Rattle.std.specs.Fmt.{digits}
 use Rattle.dip_sets.specs.Sets.{Pattern}
 use Rattle.dip_sets.specs.SizeRanges.{SizeRange}
@@ -8,7 +8,7 @@ use Rattle.tl_params.specs.declared.ops.Ops.{Ops}
 use Rattle.tl_params.specs.declared.ports.Slave.{Slave}
 use Rattle.tl_params.specs.declared.ports.UpPort.{UpPort}
 use Rattle.dip_graph.specs.declared.design.NodeKind.{NodeKind}
-use Rattle.dip_graph.specs.declared.design.NodeKind.TheVariants.{Source, Sink}
+use Rattle.dip_graph.specs.declared.design.NodeKind.TheVariants.{Source, Sink, Ruled}
 use Rattle.dip_graph.specs.declared.design.NodeEntry.{NodeEntry}
 use Rattle.dip_graph.specs.declared.design.Design.{Design}
 use Rattle.dip_graph.specs.declared.edges.Edge.{Edge}
@@ -56,6 +56,12 @@ slave_lines nodes (slave ∷ slaves) = set_lines nodes slave slave.addresses ++ 
 abbrev pub ids_of : NodeKind → ℕ
 ids_of (Source ports ids emits) = ids
 ids_of (Sink beat ports supports) = 0
+ids_of (Ruled kind args) = 0
+
+abbrev pub is_source : NodeKind → Bool
+is_source (Source ports ids emits) = true
+is_source (Sink beat ports supports) = false
+is_source (Ruled kind args) = false
 
 -- the line of an out port of a source, whose bus has so many bytes
 unfoldable pub port_line : NodeEntry → ℕ → ℕ → List ℕ
@@ -76,9 +82,13 @@ node_lines nodes number source [] ups = []
 node_lines nodes number source (edge ∷ edges) [] = []
 node_lines nodes number source (edge ∷ edges) (up ∷ ups) = lines_if_from nodes number source edge up ++ node_lines nodes number source edges ups
 
+-- those of a source
+unfoldable pub source_lines : List NodeEntry → ℕ → NodeEntry → List Edge → List UpPort → List ℕ
+source_lines nodes number node edges ups = cond (is_source node.kind) (node_lines nodes number node edges ups) []
+
 abbrev pub all_lines : List NodeEntry → ℕ → List NodeEntry → List Edge → List UpPort → List ℕ
 all_lines nodes number [] edges ups = []
-all_lines nodes number (source ∷ sources) edges ups = node_lines nodes number source edges ups ++ all_lines nodes (number + 1) sources edges ups
+all_lines nodes number (node ∷ others) edges ups = source_lines nodes number node edges ups ++ all_lines nodes (number + 1) others edges ups
 
 -- the first line of a map
 abbrev pub design_line : List ℕ → ℕ → List ℕ

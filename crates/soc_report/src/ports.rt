@@ -1,5 +1,6 @@
 ghost use Rattle.std.specs.Prelude.{◌≡◌, ◌++◌, OnOk};
-ghost use Rattle.soc_report.specs.MapText.{all_lines, ids_of, lines_if_from, node_lines, port_line, port_lines};
+ghost use Rattle.soc_report.specs.MapText.{all_lines, ids_of, is_source, lines_if_from, node_lines, port_line};
+ghost use Rattle.soc_report.specs.MapText.{port_lines, source_lines};
 
 use crate::slaves::add_slave_lines;
 use crate::writing::Text;
@@ -12,7 +13,7 @@ fn ids_of(kind: &NodeKind) -> u32
 {
     match kind {
         NodeKind::Source { ids, .. } => *ids,
-        NodeKind::Sink { .. } => 0,
+        NodeKind::Sink { .. } | NodeKind::Ruled { .. } => 0,
     }
 }
 
@@ -79,6 +80,30 @@ fn add_node_lines(
     Ok(())
 }
 
+fn is_source(kind: &NodeKind) -> bool
+    ensures { result ≡ is_source kind.now }
+{
+    matches!(kind, NodeKind::Source { .. })
+}
+
+#[tactic(auto, unfolding(crate::specs::MapText::source_lines))]
+fn add_source_lines(
+    text: &mut Text,
+    nodes: &[NodeEntry],
+    number: usize,
+    node: &NodeEntry,
+    edges: &[Edge],
+    ups: &[UpPort],
+) -> Result<(), Memory>
+    ensures { OnOk result (text.new ≡ text.old ++ source_lines nodes.now number node.now edges.now ups.now) }
+{
+    if is_source(&node.kind) {
+        add_node_lines(text, nodes, number, node, edges, ups)
+    } else {
+        Ok(())
+    }
+}
+
 /// Puts the lines of all ports at the end of a text, by node and then by port.
 pub fn add_all_lines(
     text: &mut Text,
@@ -88,8 +113,8 @@ pub fn add_all_lines(
 ) -> Result<(), Memory>
     ensures { OnOk result (text.new ≡ text.old ++ all_lines nodes.now 0 nodes.now edges.now ups.now) }
 {
-    for (number, source) in nodes.iter().enumerate() {
-        add_node_lines(text, nodes, number, source, edges, ups)?;
+    for (number, node) in nodes.iter().enumerate() {
+        add_source_lines(text, nodes, number, node, edges, ups)?;
     }
     Ok(())
 }

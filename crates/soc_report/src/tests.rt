@@ -1,7 +1,8 @@
 use crate::{Status, fault_text, map_text};
-use dip_checks::{Accepted, Solution};
+use dip_checks::Accepted;
 use dip_graph::{Design, Edge, NodeEntry, NodeKind};
 use dip_lists::{Few, Items};
+use dip_negotiate::Solution;
 use dip_sets::{AddressSet, Name, Sizes};
 use std::alloc::Global;
 use std::test::Fail;
