@@ -1,5 +1,5 @@
 use crate::read_design;
-use dip_graph::{BindEntry, Fault, NodeKind};
+use dip_graph::{BindEntry, Fault, NodeKind, Star};
 use dip_sets::{AddressSet, Sizes};
 use std::alloc::Global;
 use std::test::Fail;
@@ -40,14 +40,14 @@ fn operations(get: u32, put_full: u32) -> Ops {
 fn source(kind: &NodeKind) -> Option<(u32, u32, Ops)> {
     match kind {
         NodeKind::Source { ports, ids, emits } => Some((*ports, *ids, *emits)),
-        NodeKind::Sink { .. } => None,
+        NodeKind::Sink { .. } | NodeKind::Ruled { .. } => None,
     }
 }
 
 // The beat, the number of ports and the operations of a sink.
 fn sink(kind: &NodeKind) -> Option<(u32, usize, Ops)> {
     match kind {
-        NodeKind::Source { .. } => None,
+        NodeKind::Source { .. } | NodeKind::Ruled { .. } => None,
         NodeKind::Sink {
             beat,
             ports,
@@ -59,7 +59,7 @@ fn sink(kind: &NodeKind) -> Option<(u32, usize, Ops)> {
 // The address sets at the first port of a sink.
 fn first_sets(kind: &NodeKind) -> Option<&[AddressSet]> {
     match kind {
-        NodeKind::Source { .. } => None,
+        NodeKind::Source { .. } | NodeKind::Ruled { .. } => None,
         NodeKind::Sink { ports, .. } => Some(ports.get(0)?.as_slice()),
     }
 }
@@ -71,7 +71,11 @@ fn a_design_of_two_nodes(rt: HostRuntime) -> Result<(), Fail> {
     assert_eq!(rt; design.policy, Policy::Lowest);
     assert_eq!(rt; design.modules.len(), 1);
     assert_eq!(rt; design.nodes.len(), 2);
-    let binds = [BindEntry { to: 1, from: 0 }];
+    let binds = [BindEntry {
+        to: 1,
+        from: 0,
+        star: Star::One,
+    }];
     assert!(rt; design.binds.as_slice() == binds.as_slice());
     Ok(())
 }
