@@ -1,7 +1,8 @@
-ghost use Rattle.std.specs.Prelude.{◌≡◌, ◌≤◌, ◌<◌, ◌^◌, ◌+◌, length, IfOk, IfErr, IfNone, OnOk, Some, None};
+ghost use Rattle.std.specs.Prelude.{◌≡◌, ◌≤◌, ◌<◌, ◌^◌, ◌+◌, length, All, IfOk, IfErr, IfNone, OnOk, Some, None};
 ghost use Rattle.toml.specs.View.{table_view, items_view};
 ghost use Rattle.dip_lists.specs.First.{first, first_failing};
 ghost use Rattle.soc_design.specs.Stated as spec;
+ghost use Rattle.soc_design.specs.Standing.{IsWithinLimits};
 ghost use Rattle.dip_graph.specs.Faults.{IsFaultAt, IsFaultOf};
 ghost use Rattle.soc_design.specs.Reading.{count, modules_in, nodes_in, binds_in, failing, at_top, top_is_beyond, is_past, node_is_beyond, beyond_modules, beyond_nodes, beyond_binds, limit_checks};
 
@@ -38,6 +39,7 @@ fn stated_nodes(alloc: Global, nodes: &[Value], entry: u64) -> Result<LimitedNod
     ensures passes { IfOk result (λ _. first (failing node_is_beyond 0 entry (items_view nodes.now)) ≡ None) }
     ensures few { IfOk result (λ _. length nodes.now ≤ 256) }
     ensures counted { IfOk result (λ stated. length stated ≡ length nodes.now) }
+    ensures within { IfOk result (λ stated. All (λ node. IsWithinLimits node.kind) stated) }
     ensures err { IfErr result (IsFaultAt 3 (failing node_is_beyond 0 entry (items_view nodes.now))) }
 {
     let mut stated = Items::new(alloc);
@@ -134,6 +136,7 @@ fn nodes_within(alloc: Global, table: &Table) -> Result<LimitedNodes, Fault>
         nodes) }
     ensures few { IfOk result (λ _. count (nodes_in (table_view table.now)) ≤ 256) }
     ensures counted { IfOk result (λ nodes. length nodes ≡ count (nodes_in (table_view table.now))) }
+    ensures within { IfOk result (λ nodes. All (λ node. IsWithinLimits node.kind) nodes) }
     ensures passes { IfOk result (λ _. first (beyond_nodes (table_view table.now)) ≡ None) }
     ensures err { IfErr result (IsFaultAt 3 (beyond_nodes (table_view table.now))) }
 {
@@ -173,6 +176,7 @@ pub fn limited(alloc: Global, table: &Table) -> Result<LimitedFile, Fault>
     ensures some_node { IfOk result (λ _. 1 ≤ count (nodes_in (table_view table.now))) }
     ensures few_nodes { IfOk result (λ _. count (nodes_in (table_view table.now)) ≤ 256) }
     ensures counted { IfOk result (λ file. length file.nodes ≡ count (nodes_in (table_view table.now))) }
+    ensures within { IfOk result (λ file. All (λ node. IsWithinLimits node.kind) file.nodes) }
     ensures few_binds { IfOk result (λ _. count (binds_in (table_view table.now)) ≤ 1024) }
     ensures passes { IfOk result (λ _. first_failing (limit_checks (table_view table.now)) ≡ None) }
     ensures err { IfErr result (IsFaultOf (first_failing (limit_checks (table_view table.now)))) }

@@ -3,6 +3,7 @@ ghost use Rattle.toml.specs.View.{table_view, view, items_view};
 ghost use Rattle.toml_shape.specs.Numbers.{is_named};
 ghost use Rattle.dip_lists.specs.First.{first, first_failing};
 ghost use Rattle.soc_design.specs.Stated as spec;
+ghost use Rattle.soc_design.specs.Standing.{IsTree, IsWithinLimits};
 ghost use Rattle.dip_graph.specs.Faults.{IsFaultAt, IsFaultOf};
 ghost use Rattle.soc_design.specs.Reading as reading;
 ghost use Rattle.soc_design.specs.Reading.{failing, unnamed_modules, unnamed_nodes, bind_is_unnamed};
@@ -54,6 +55,7 @@ fn module_after(
     requires few { length earlier.now ≤ 256 }
     ensures value { IfOk result (λ entry. entry ≡ spec.module_after earlier.now (view value.now)) }
     ensures new { IfOk result (λ found. IfSome found (λ entry. is_named earlier.now entry.name ≡ false)) }
+    ensures earlier { IfOk result (λ found. IfSome found (λ entry. entry.parent < length earlier.now)) }
     ensures named { IfOk result (λ found. IfSome found (λ entry. entry.name ≡ spec.name_at
         (view value.now))) }
 {
@@ -97,6 +99,7 @@ fn stated_modules(alloc: Global, top: &Name, modules: &[Value]) -> Result<NamedM
     ensures some { IfOk result (λ stated. 1 ≤ length stated.names) }
     ensures few { IfOk result (λ stated. length stated.names ≤ 256) }
     ensures counted { IfOk result (λ stated. length stated.tree ≡ length stated.names) }
+    ensures parents { IfOk result (λ stated. IsTree stated.tree) }
     ensures passes { IfOk result (λ _. first (unnamed_modules top.now (items_view modules.now)) ≡ None) }
     ensures err { IfErr result (IsFaultAt 4 (unnamed_modules top.now (items_view modules.now))) }
 {
@@ -143,10 +146,12 @@ fn stated_nodes(
     requires few { length modules.now ≤ 256 }
     requires entries { entry + length tables.now < 2 ^ 64 }
     requires limited { spec.all_of spec.node_of (items_view tables.now) ≡ Some limited }
+    requires within { All (λ node. IsWithinLimits node.kind) limited }
     ensures names { IfOk result (λ stated. stated.names ≡ spec.names_at (items_view tables.now)) }
     ensures nodes { IfOk result (λ stated. spec.all_of (spec.placed_node modules.now)
         (items_view tables.now) ≡ Some stated.nodes) }
     ensures counted { IfOk result (λ stated. length stated.nodes ≡ length tables.now) }
+    ensures within { IfOk result (λ stated. All (λ node. IsWithinLimits node.kind) stated.nodes) }
     ensures placed { IfOk result (λ stated. All (λ node. node.«module» < length modules.now) stated.nodes) }
     ensures passes { IfOk result (λ _. first (unnamed_nodes modules.now entry (items_view tables.now)) ≡
         None) }
@@ -258,6 +263,7 @@ fn modules_of(alloc: Global, top: &Name, table: &Table) -> Result<NamedModules, 
     ensures some { IfOk result (λ modules. 1 ≤ length modules.names) }
     ensures few { IfOk result (λ modules. length modules.names ≤ 256) }
     ensures counted { IfOk result (λ modules. length modules.tree ≡ length modules.names) }
+    ensures parents { IfOk result (λ modules. IsTree modules.tree) }
     ensures passes { IfOk result (λ _. first (reading.unnamed_modules_in top.now (table_view table.now)) ≡
         None) }
     ensures err { IfErr result (IsFaultAt 4 (reading.unnamed_modules_in top.now (table_view table.now))) }
@@ -275,11 +281,13 @@ fn nodes_of(
     requires some { 1 ≤ length modules.now }
     requires few { length modules.now ≤ 256 }
     requires limited { spec.all_of spec.node_of (reading.nodes_in (table_view table.now)) ≡ Some limited }
+    requires within { All (λ node. IsWithinLimits node.kind) limited }
     ensures names { IfOk result (λ nodes. nodes.names ≡ reading.node_names (table_view table.now)) }
     ensures nodes { IfOk result (λ nodes. reading.stated_nodes modules.now (table_view table.now) ≡ Some
         nodes.nodes) }
     ensures counted { IfOk result (λ nodes. length nodes.nodes ≡ reading.count
         (reading.nodes_in (table_view table.now))) }
+    ensures within { IfOk result (λ nodes. All (λ node. IsWithinLimits node.kind) nodes.nodes) }
     ensures placed { IfOk result (λ nodes. All (λ node. node.«module» < length modules.now) nodes.nodes) }
     ensures passes { IfOk result (λ _. first (reading.unnamed_nodes_in modules.now (table_view table.now)) ≡
         None) }
@@ -316,15 +324,18 @@ fn binds_of(alloc: Global, names: &Names, table: &Table) -> Result<Binds, Fault>
 /// unknown module, or else the first bind that names a node that isn't there.
 pub fn named_design(alloc: Global, file: LimitedFile, table: &Table) -> Result<Design, Fault>
     requires nodes { spec.all_of spec.node_of (reading.nodes_in (table_view table.now)) ≡ Some file.nodes }
+    requires within { All (λ node. IsWithinLimits node.kind) file.nodes }
     requires few_modules { reading.count (reading.modules_in (table_view table.now)) ≤ 255 }
     requires few_nodes { reading.count (reading.nodes_in (table_view table.now)) ≤ 256 }
     ensures ok { IfOk result (λ design. reading.design_with (table_view table.now) file.heading ≡ Some
         design) }
     ensures modules { IfOk result (λ design. length design.modules ≤ 256) }
+    ensures parents { IfOk result (λ design. IsTree design.modules) }
     ensures nodes { IfOk result (λ design. length design.nodes ≡ reading.count
         (reading.nodes_in (table_view table.now))) }
     ensures binds { IfOk result (λ design. length design.binds ≡ reading.count
         (reading.binds_in (table_view table.now))) }
+    ensures within { IfOk result (λ design. All (λ node. IsWithinLimits node.kind) design.nodes) }
     ensures placed { IfOk result (λ design. All (λ node. node.«module» < length design.modules)
         design.nodes) }
     ensures bound { IfOk result (λ design. All (λ bind. (bind.to < length design.nodes) × (bind.from < length

@@ -1,8 +1,9 @@
-ghost use Rattle.std.specs.Prelude.{◌≡◌, ◌≤◌, ◌^◌, IsTrue, IfOk, IfSome};
+ghost use Rattle.std.specs.Prelude.{◌≡◌, ◌≤◌, ◌^◌, length, IsTrue, IfOk, IfSome};
 ghost use Rattle.toml.specs.Data.{get_member};
 ghost use Rattle.toml.specs.View.{table_view, view, items_view};
 ghost use Rattle.dip_sets.specs.Names as names;
 ghost use Rattle.soc_design.specs.Stated as spec;
+ghost use Rattle.soc_design.specs.Standing.{IsUpTo64, IsWithinLimits};
 
 use crate::tables::named;
 use dip_graph::NodeKind;
@@ -123,7 +124,8 @@ fn ports_in(alloc: Global, items: &[Value]) -> Result<Option<AddressLists>, Memo
 }
 
 fn ports_under(alloc: Global, table: &Table, key: &str) -> Result<Option<AddressLists>, Memory>
-    ensures { IfOk result (λ ports. ports ≡ spec.ports_of (get_member key.now (table_view table.now))) }
+    ensures value { IfOk result (λ ports. ports ≡ spec.ports_of (get_member key.now (table_view table.now))) }
+    ensures within { IfOk result (λ found. IfSome found (λ ports. IsUpTo64 (length ports))) }
 {
     let Some(Value::Array(items)) = under(table, key) else {
         return Ok(None);
@@ -140,7 +142,7 @@ fn ports_under(alloc: Global, table: &Table, key: &str) -> Result<Option<Address
 
 fn port_count(table: &Table) -> Option<u64>
     ensures value { result ≡ spec.port_count_in (table_view table.now) }
-    ensures within { IfSome result (λ ports. ports ≤ 64) }
+    ensures within { IfSome result IsUpTo64 }
 {
     match under(table, "ports") {
         None => Some(1),
@@ -149,7 +151,8 @@ fn port_count(table: &Table) -> Option<u64>
 }
 
 fn source_of(table: &Table) -> Option<NodeKind>
-    ensures { result ≡ spec.source_of (table_view table.now) }
+    ensures value { result ≡ spec.source_of (table_view table.now) }
+    ensures within { IfSome result IsWithinLimits }
 {
     let ports = port_count(table)?;
     let ids = number_under(table, "ids", 1, 64)?;
@@ -163,7 +166,8 @@ fn source_of(table: &Table) -> Option<NodeKind>
 
 fn beat_under(table: &Table, key: &str) -> Option<u64>
     ensures value { result ≡ spec.beat_under key.now (table_view table.now) }
-    ensures within { IfSome result (λ beat. beat ≤ 8) }
+    ensures fits { IfSome result (λ beat. beat ≤ 8) }
+    ensures within { IfSome result (λ beat. IsTrue (spec.is_beat beat)) }
 {
     let beat = number_under(table, key, 1, 8)?;
     if matches!(beat, 1 | 2 | 4 | 8) {
@@ -174,7 +178,8 @@ fn beat_under(table: &Table, key: &str) -> Option<u64>
 }
 
 fn sink_of(alloc: Global, table: &Table) -> Result<Option<NodeKind>, Memory>
-    ensures { IfOk result (λ kind. kind ≡ spec.sink_of (table_view table.now)) }
+    ensures value { IfOk result (λ kind. kind ≡ spec.sink_of (table_view table.now)) }
+    ensures within { IfOk result (λ kind. IfSome kind IsWithinLimits) }
 {
     let Some(beat) = beat_under(table, "beat") else {
         return Ok(None);
@@ -215,7 +220,8 @@ fn args_in(alloc: Global, items: &[Value]) -> Result<Option<Args>, Memory>
 }
 
 fn args_under(alloc: Global, table: &Table, key: &str) -> Result<Option<Args>, Memory>
-    ensures { IfOk result (λ args. args ≡ spec.args_of (get_member key.now (table_view table.now))) }
+    ensures value { IfOk result (λ args. args ≡ spec.args_of (get_member key.now (table_view table.now))) }
+    ensures within { IfOk result (λ found. IfSome found (λ args. length args ≤ 8)) }
 {
     let items = match under(table, key) {
         None => return Ok(Some(Items::new(alloc))),
@@ -234,7 +240,8 @@ fn args_under(alloc: Global, table: &Table, key: &str) -> Result<Option<Args>, M
 
 fn ruled_of(alloc: Global, kind: &str, table: &Table) -> Result<Option<NodeKind>, Memory>
     requires { IsTrue (names.is_name kind.now) }
-    ensures { IfOk result (λ node. node ≡ spec.ruled_of kind.now (table_view table.now)) }
+    ensures value { IfOk result (λ node. node ≡ spec.ruled_of kind.now (table_view table.now)) }
+    ensures within { IfOk result (λ node. IfSome node IsWithinLimits) }
 {
     let Some(args) = args_under(alloc, table, "args")? else {
         return Ok(None);
@@ -244,7 +251,8 @@ fn ruled_of(alloc: Global, kind: &str, table: &Table) -> Result<Option<NodeKind>
 }
 
 fn kind_of(alloc: Global, table: &Table) -> Result<Option<NodeKind>, Memory>
-    ensures { IfOk result (λ kind. kind ≡ spec.kind_of (table_view table.now)) }
+    ensures value { IfOk result (λ kind. kind ≡ spec.kind_of (table_view table.now)) }
+    ensures within { IfOk result (λ kind. IfSome kind IsWithinLimits) }
 {
     match name_under(table, "kind") {
         Some("source") => Ok(source_of(table)),
@@ -266,7 +274,8 @@ pub type LimitedNodes = Items<LimitedNode>;
 
 /// The node that a table states; `None` where a number of it is beyond its limits.
 pub fn node_of(alloc: Global, value: &Value) -> Result<Option<LimitedNode>, Memory>
-    ensures { IfOk result (λ node. node ≡ spec.node_of (view value.now)) }
+    ensures value { IfOk result (λ node. node ≡ spec.node_of (view value.now)) }
+    ensures within { IfOk result (λ found. IfSome found (λ node. IsWithinLimits node.kind)) }
 {
     let Value::Table(table) = value else {
         return Ok(None);

@@ -3,6 +3,7 @@ use Rattle.std.specs.Option.{option_map}
 use Rattle.toml.specs.View.{items_view}
 use Rattle.dip_lists.specs.First.{first}
 use Rattle.soc_design.specs.Stated.{each_of, module_at, names_at, modules_of}
+use Rattle.soc_design.specs.Standing.{IsTree}
 use Rattle.soc_design.specs.Reading.{failing, module_is_unnamed}
 use Rattle.soc_design.proofs.names.stated_modules.Given as goal
 
@@ -12,6 +13,7 @@ invariant-loop-place l =
       named : l.names ≡ l.top ∷ take l.place (names_at (items_view l.modules));
       counted : length l.names ≡ l.place + 1;
       tree_counted : length l.tree ≡ l.place + 1;
+      parents : IsTree l.tree;
       stated :
           option_map (λ rest. l.tree ++ rest) (each_of (module_at l.top (names_at (items_view l.modules))) l.place (items_view (drop l.place l.modules)))
           ≡ modules_of l.top (items_view l.modules);
