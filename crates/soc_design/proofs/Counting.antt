@@ -1,5 +1,5 @@
 -- How many items an array has.
-use Rattle.std.proofs.Common.{ℕ, ◌≡◌, ◌+◌, List, [], ◌∷◌, length, false, ◌||◌, ◌==◌, nat_le, Option, Some, None, is_none, refl, sym, ◌∙◌, ap, arith}
+use Rattle.std.proofs.Common.{ℕ, ◌≡◌, ◌≤◌, ◌+◌, List, [], ◌∷◌, length, false, ◌||◌, ◌==◌, nat_le, Option, Some, None, is_none, refl, sym, ◌∙◌, ap, arith}
 use Rattle.std.proofs.lemmas.Bool.Decides.{nat_tests}
 use Rattle.toml.specs.declared.value.Value.{Value}
 use Rattle.toml.specs.Data.{Items, no_items, item}
@@ -30,3 +30,8 @@ top_passes found heading (v ∷ values) ds e d h = rw (e, ← d, some_not_none (
 pub count-names_at : (ds : Items) → length (names_at ds) ≡ count ds
 count-names_at no_items = refl
 count-names_at (item d ds) = let rest : length (names_at ds) ≡ count ds = count-names_at ds in omega arith
+
+-- at least one node
+pub some_there : (values : List Value) (ds : Items) → items_view values ≡ ds → false ≡ (length values == 0) → 1 ≤ count ds
+some_there [] ds e h = (cc)
+some_there (v ∷ values) ds e h = rw (← e) (omega arith)

@@ -6,7 +6,7 @@ use Rattle.toml.specs.Data.{Data, Items, item}
 use Rattle.toml.specs.View.{view, items_view}
 use Rattle.toml.proofs.Views.{items_view-drop}
 use Rattle.dip_lists.specs.First.{first}
-use Rattle.soc_design.specs.Reading.{failing, bind_is_beyond, most_binds}
+use Rattle.soc_design.specs.Reading.{failing, is_past}
 
 head_passes : (fails : ℕ → Data → Bool) (place entry next : ℕ) (d : Data) (ds : Items) → next ≡ entry + 1 → fails place d ≡ false
     → first (failing fails (place + 1) next ds) ≡ first (failing fails place entry (item d ds))
@@ -39,30 +39,37 @@ stops fails place entry values value is lt h =
 below_or_there : (place most : ℕ) → place ≤ most → (place < most) ⊎ (place ≡ most)
 below_or_there place most h = search rules
 
-before_limit : (place : ℕ) → place < most_binds → nat_le most_binds place ≡ false
-before_limit place h = grind (arith, nat_tests)
+before_limit : (most place : ℕ) → place < most → nat_le most place ≡ false
+before_limit most place h = grind (arith, nat_tests)
 
-at_limit : (place : ℕ) → place ≡ most_binds → nat_le most_binds place ≡ true
-at_limit place h = grind (arith, nat_tests)
+at_limit : (most place : ℕ) → place ≡ most → nat_le most place ≡ true
+at_limit most place h = grind (arith, nat_tests)
 
-pub none_beyond : (place entry : ℕ) (values : List Value) → place + length values ≤ most_binds → first (failing bind_is_beyond place entry (items_view values)) ≡ None
-none_beyond place entry [] h = refl
-none_beyond place entry (v ∷ values) h =
-    let below : place < most_binds = omega arith in
-    let rest : place + 1 + length values ≤ most_binds = omega arith in
-    rw (before_limit place below) (none_beyond (place + 1) (entry + 1) values rest)
+pub none_beyond : (most place entry : ℕ) (values : List Value) → place + length values ≤ most → first (failing (is_past most) place entry (items_view values)) ≡ None
+none_beyond most place entry [] h = refl
+none_beyond most place entry (v ∷ values) h =
+    let below : place < most = omega arith in
+    let rest : place + 1 + length values ≤ most = omega arith in
+    rw (before_limit most place below) (none_beyond most (place + 1) (entry + 1) values rest)
 
-next_entry : (entry place : ℕ) → place < most_binds → entry + 1 + (most_binds - (place + 1)) ≡ entry + (most_binds - place)
-next_entry entry place h = omega arith
+next_entry : (most entry place : ℕ) → place < most → entry + 1 + (most - (place + 1)) ≡ entry + (most - place)
+next_entry most entry place h = omega arith
 
-pub some_beyond : (place entry : ℕ) (values : List Value) → place ≤ most_binds → most_binds < place + length values
-    → first (failing bind_is_beyond place entry (items_view values)) ≡ Some (entry + (most_binds - place))
-some_beyond place entry [] h g = absurd (omega arith)
-some_beyond place entry (v ∷ values) h g =
-    elim (below_or_there place most_binds h) [
+some_beyond : (most place entry : ℕ) (values : List Value) → place ≤ most → most < place + length values
+    → first (failing (is_past most) place entry (items_view values)) ≡ Some (entry + (most - place))
+some_beyond most place entry [] h g = absurd (omega arith)
+some_beyond most place entry (v ∷ values) h g =
+    elim (below_or_there place most h) [
       | inl below ↦
-          let within : place + 1 ≤ most_binds = omega arith in
-          let more : most_binds < place + 1 + length values = omega arith in
-          rw (before_limit place below) (some_beyond (place + 1) (entry + 1) values within more ∙ ap Some (next_entry entry place below))
-      | inr there ↦ let here : entry ≡ entry + (most_binds - place) = omega arith in rw (at_limit place there) (ap Some here)
+          let within : place + 1 ≤ most = omega arith in
+          let more : most < place + 1 + length values = omega arith in
+          rw (before_limit most place below) (some_beyond most (place + 1) (entry + 1) values within more ∙ ap Some (next_entry most entry place below))
+      | inr there ↦ let here : entry ≡ entry + (most - place) = omega arith in rw (at_limit most place there) (ap Some here)
     ]
+
+-- the first table past a number, where there are more
+pub past_number : (most entry : ℕ) (values : List Value) → most < length values → first (failing (is_past most) 0 entry (items_view values)) ≡ Some (entry + most)
+past_number most entry values h =
+    let more : most < 0 + length values = omega arith in
+    let there : entry + (most - 0) ≡ entry + most = omega arith in
+    some_beyond most 0 entry values (omega arith) more ∙ ap Some there

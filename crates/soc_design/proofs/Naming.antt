@@ -1,10 +1,16 @@
 -- The names that nodes have, item by item.
-use Rattle.std.proofs.Common.{ℕ, ◌≡◌, ◌<◌, ◌≤◌, ◌+◌, List, [], ◌∷◌, ◌++◌, take, map, length, get_or, Bool, true, false, ◌||◌, not, refl, sym, ◌∙◌, ap, arith}
+use Rattle.std.proofs.Common.{ℕ, ◌≡◌, ◌<◌, ◌≤◌, ◌+◌, List, [], ◌∷◌, ◌++◌, take, map, length, get_or, Bool, true, false, ◌||◌, Option, Some, None, refl, sym, ◌∙◌, ap, arith}
 use Rattle.std.proofs.lemmas.List.{get_or-map, take_more, length-map}
 use Rattle.std.proofs.Math.Seq.{take-length}
 use Rattle.toml.specs.declared.value.Value.{Value}
+use Rattle.std.specs.Prelude.{codes, unwrap_or}
+use Rattle.std.specs.Option.{option_and_then, option_map}
+use Rattle.toml.specs.Data.{Data, string, integer, float, boolean, datetime, array, table}
 use Rattle.toml.specs.View.{view, items_view}
-use Rattle.soc_design.specs.Stated.{name_at, names_at}
+use Rattle.dip_graph.specs.declared.design.NodeKind.{NodeKind}
+use Rattle.toml_shape.specs.Shapes.{name_under}
+use Rattle.soc_design.specs.declared.nodes.LimitedNode.{LimitedNode}
+use Rattle.soc_design.specs.Stated.{kind_of, node_of, name_at, names_at}
 
 names_are : (values : List Value) → names_at (items_view values) ≡ map (λ v. name_at (view v)) values
 names_are [] = refl
@@ -29,5 +35,26 @@ all_names place values within done =
     let whole : place ≡ length (names_at (items_view values)) = omega (arith, count_of_names values) in
     ap (λ n. take n (names_at (items_view values))) whole ∙ take-length (names_at (items_view values))
 
-pub neither : (named placed : Bool) → named ≡ false → placed ≡ true → (named || not placed) ≡ false
-neither named placed n p = rw (n, p) refl
+pub neither : (a b : Bool) → a ≡ false → b ≡ false → (a || b) ≡ false
+neither a b h g = rw (h, g) refl
+
+pub first_of : (a b : Bool) → a ≡ true → (a || b) ≡ true
+first_of a b h = rw h refl
+
+name_kept : (name : Option (List ℕ)) (kind : Option NodeKind) (node : LimitedNode)
+    → option_and_then (λ n. option_map (λ k. record { name = n; kind = k }) kind) name ≡ Some node → node.name ≡ unwrap_or name []
+name_kept None kind node e = (cc)
+name_kept (Some n) None node e = (cc)
+name_kept (Some n) (Some k) node e =
+    let same : record { name = n; kind = k } ≡ node = cc in
+    sym (ap (λ (m : LimitedNode). m.name) same)
+
+-- the name of what a table states
+pub node_name : (d : Data) (node : LimitedNode) → node_of d ≡ Some node → node.name ≡ name_at d
+node_name (string t) node e = (cc)
+node_name (integer z) node e = (cc)
+node_name (float f) node e = (cc)
+node_name (boolean b) node e = (cc)
+node_name (datetime t) node e = (cc)
+node_name (array ds) node e = (cc)
+node_name (table ms) node e = name_kept (name_under (codes "name") ms) (kind_of ms) node e

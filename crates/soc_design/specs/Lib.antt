@@ -1,3 +1,4 @@
 pub mod Shape
 pub mod Stated
 pub mod Reading
+pub mod Standing

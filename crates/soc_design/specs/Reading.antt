@@ -1,6 +1,6 @@
 -- A design file: the checks of its bytes in their order, and the design that it states.
 use Rattle.std.specs.Prelude.{ℕ, ◌+◌, List, [], ◌∷◌, ◌++◌, length, take, codes, Bool, ◌&&◌, ◌||◌, not, cond, nat_le, Option, Some, None, is_none, unwrap_or, if◌then◌else◌}
-use Rattle.std.specs.Option.{option_and_then}
+use Rattle.std.specs.Option.{option_and_then, option_map}
 use Rattle.std.specs.Str.{is_utf8}
 use Rattle.toml.specs.Parse.{parse_document}
 use Rattle.toml.specs.Data.{Data, Items, no_items, item, Members}
@@ -8,12 +8,12 @@ use Rattle.dip_lists.specs.First.{Check, check}
 use Rattle.dip_graph.specs.declared.design.Design.{Design}
 use Rattle.toml_shape.specs.Shapes.{tables_under}
 use Rattle.toml_shape.specs.Numbers.{is_named}
+use Rattle.dip_graph.specs.declared.design.ModuleEntry.{ModuleEntry}
 use Rattle.dip_graph.specs.declared.design.NodeEntry.{NodeEntry}
 use Rattle.dip_graph.specs.declared.design.BindEntry.{BindEntry}
 use Rattle.soc_design.specs.declared.limits.Heading.{Heading}
-use Rattle.soc_design.specs.declared.limits.LimitedFile.{LimitedFile}
 use Rattle.soc_design.specs.Shape.{top_has_shape, module_has_shape, node_has_shape, bind_has_shape}
-use Rattle.soc_design.specs.Stated.{all_of, heading_of, node_of, name_at, names_at, is_in_top, bind_of}
+use Rattle.soc_design.specs.Stated.{all_of, heading_of, node_of, placed_node, name_at, names_at, module_at, modules_of, module_of, bind_of}
 
 -- ---- entries: the top table is entry 0, then come the modules, the nodes and the binds, each in file order
 
@@ -60,6 +60,9 @@ shape_checks ms =
 
 -- ---- check 3: the limits
 
+abbrev pub most_modules : ℕ
+most_modules = 255
+
 abbrev pub most_nodes : ℕ
 most_nodes = 256
 
@@ -70,25 +73,38 @@ most_binds = 1024
 abbrev pub top_is_beyond : Members → Bool
 top_is_beyond ms = is_none (heading_of ms) || nat_le (count (nodes_in ms)) 0
 
--- a table past the allowed number, or one with a number beyond its limits
-abbrev pub node_is_beyond : ℕ → Data → Bool
-node_is_beyond place d = nat_le most_nodes place || is_none (node_of d)
+-- a table past the allowed number
+abbrev pub is_past : ℕ → ℕ → Data → Bool
+is_past most place d = nat_le most place
 
-abbrev pub bind_is_beyond : ℕ → Data → Bool
-bind_is_beyond place d = nat_le most_binds place
+-- the same, or a node with a number beyond its limits
+abbrev pub node_is_beyond : ℕ → Data → Bool
+node_is_beyond place d = is_past most_nodes place d || is_none (node_of d)
+
+abbrev pub beyond_modules : Members → List ℕ
+beyond_modules ms = failing (is_past most_modules) 0 1 (modules_in ms)
 
 abbrev pub beyond_nodes : Members → List ℕ
 beyond_nodes ms = failing node_is_beyond 0 (first_node ms) (nodes_in ms)
 
 abbrev pub beyond_binds : Members → List ℕ
-beyond_binds ms = failing bind_is_beyond 0 (first_bind ms) (binds_in ms)
+beyond_binds ms = failing (is_past most_binds) 0 (first_bind ms) (binds_in ms)
 
 abbrev pub limit_checks : Members → List Check
-limit_checks ms = check 3 (at_top (top_is_beyond ms)) ∷ check 3 (beyond_nodes ms) ∷ check 3 (beyond_binds ms) ∷ []
+limit_checks ms =
+    check 3 (at_top (top_is_beyond ms))
+    ∷ check 3 (beyond_modules ms)
+    ∷ check 3 (beyond_nodes ms)
+    ∷ check 3 (beyond_binds ms)
+    ∷ []
 
 -- ---- check 4: the names
 
--- the names of the nodes in file order, and the design's
+-- the names of the modules, that of the top one first
+abbrev pub module_names : List ℕ → Members → List (List ℕ)
+module_names top ms = top ∷ names_at (modules_in ms)
+
+-- the names of the nodes in file order
 abbrev pub node_names : Members → List (List ℕ)
 node_names ms = names_at (nodes_in ms)
 
@@ -96,26 +112,40 @@ abbrev pub heading_name : Option Heading → List ℕ
 heading_name None = []
 heading_name (Some heading) = heading.name
 
+-- a module with an earlier module's name, or in a module that isn't there earlier
+abbrev pub module_is_unnamed : List ℕ → List (List ℕ) → ℕ → Data → Bool
+module_is_unnamed top names place d = is_none (module_at top names place d)
+
 -- a node with an earlier node's name, or in a module that isn't there
-abbrev pub node_is_unnamed : List ℕ → List (List ℕ) → ℕ → Data → Bool
-node_is_unnamed top names place d = is_named (take place names) (name_at d) || not (is_in_top top d)
+abbrev pub node_is_unnamed : List (List ℕ) → List (List ℕ) → ℕ → Data → Bool
+node_is_unnamed modules names place d = is_named (take place names) (name_at d) || is_none (module_of modules d)
 
 -- a bind that names a node that isn't there
 abbrev pub bind_is_unnamed : List (List ℕ) → ℕ → Data → Bool
 bind_is_unnamed names place d = is_none (bind_of names d)
 
-abbrev pub unnamed_nodes : List ℕ → ℕ → Items → List ℕ
-unnamed_nodes top entry ds = failing (node_is_unnamed top (names_at ds)) 0 entry ds
+abbrev pub unnamed_modules : List ℕ → Items → List ℕ
+unnamed_modules top ds = failing (module_is_unnamed top (names_at ds)) 0 1 ds
 
-abbrev pub unnamed_nodes_in : List ℕ → Members → List ℕ
-unnamed_nodes_in top ms = unnamed_nodes top (first_node ms) (nodes_in ms)
+abbrev pub unnamed_modules_in : List ℕ → Members → List ℕ
+unnamed_modules_in top ms = unnamed_modules top (modules_in ms)
+
+abbrev pub unnamed_nodes : List (List ℕ) → ℕ → Items → List ℕ
+unnamed_nodes modules entry ds = failing (node_is_unnamed modules (names_at ds)) 0 entry ds
+
+abbrev pub unnamed_nodes_in : List (List ℕ) → Members → List ℕ
+unnamed_nodes_in modules ms = unnamed_nodes modules (first_node ms) (nodes_in ms)
 
 abbrev pub unnamed_binds_in : List (List ℕ) → Members → List ℕ
 unnamed_binds_in names ms = failing (bind_is_unnamed names) 0 (first_bind ms) (binds_in ms)
 
 -- the checks of names in a design of this name
 abbrev pub named_checks : List ℕ → Members → List Check
-named_checks top ms = check 4 (unnamed_nodes_in top ms) ∷ check 4 (unnamed_binds_in (node_names ms) ms) ∷ []
+named_checks top ms =
+    check 4 (unnamed_modules_in top ms)
+    ∷ check 4 (unnamed_nodes_in (module_names top ms) ms)
+    ∷ check 4 (unnamed_binds_in (node_names ms) ms)
+    ∷ []
 
 abbrev pub name_checks : Members → List Check
 name_checks ms = named_checks (heading_name (heading_of ms)) ms
@@ -140,26 +170,27 @@ checks_of_tree (Some ms) = tree_checks ms
 abbrev pub file_checks : List ℕ → List Check
 file_checks bytes = checks_of_tree (tree_of bytes)
 
--- the design with this heading and these nodes and binds; its only module is the top one
-abbrev pub design_with : LimitedFile → List BindEntry → Design
-design_with file binds =
-    record {
-      name = file.heading.name;
-      policy = file.heading.policy;
-      modules = record { name = file.heading.name; parent = 0 } ∷ [];
-      nodes = file.nodes;
-      binds = binds;
-    }
+abbrev pub stated_modules : List ℕ → Members → Option (List ModuleEntry)
+stated_modules top ms = modules_of top (modules_in ms)
 
-abbrev pub design_from : Option Heading → Option (List NodeEntry) → Option (List BindEntry) → Option Design
-design_from (Some heading) (Some nodes) (Some binds) = Some (design_with (record { heading = heading; nodes = nodes }) binds)
-design_from (Some heading) (Some nodes) None = None
-design_from (Some heading) None binds = None
-design_from None nodes binds = None
+abbrev pub stated_nodes : List (List ℕ) → Members → Option (List NodeEntry)
+stated_nodes modules ms = all_of (placed_node modules) (nodes_in ms)
+
+abbrev pub stated_binds : Members → Option (List BindEntry)
+stated_binds ms = all_of (bind_of (node_names ms)) (binds_in ms)
+
+-- the design with this heading
+abbrev pub design_with : Members → Heading → Option Design
+design_with ms heading =
+    option_and_then (λ modules. option_and_then (λ nodes. option_map (λ binds.
+    record { name = heading.name; policy = heading.policy; modules = modules; nodes = nodes; binds = binds })
+    (stated_binds ms))
+    (stated_nodes (module_names heading.name ms) ms))
+    (stated_modules heading.name ms)
 
 -- the design that a tree states
 abbrev pub design_of : Members → Option Design
-design_of ms = design_from (heading_of ms) (all_of node_of (nodes_in ms)) (all_of (bind_of (node_names ms)) (binds_in ms))
+design_of ms = option_and_then (design_with ms) (heading_of ms)
 
 abbrev pub stated_design : List ℕ → Option Design
 stated_design bytes = option_and_then design_of (tree_of bytes)

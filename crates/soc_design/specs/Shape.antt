@@ -2,9 +2,17 @@
 use Rattle.std.specs.Prelude.{ℕ, List, [], ◌∷◌, codes, Bool, true, false, ◌&&◌, cond, Option, Some, None, is_some}
 use Rattle.std.specs.Str.{bytes_eq}
 use Rattle.toml.specs.Data.{Data, array, table, Items, no_items, item, Members, no_members, member, get_member}
-use Rattle.toml_shape.specs.Shapes.{keys_among, pair_of, text_under, name_under, integer_under, tables_under, is_integer, is_short_name, is_one_of, has, may_have}
+use Rattle.toml_shape.specs.Shapes.{keys_among, pair_of, name_under, integer_under, tables_under, is_integer, is_short_name, is_one_of, has, may_have}
 
 -- ---- values
+
+abbrev pub are_integers : Items → Bool
+are_integers no_items = true
+are_integers (item d ds) = is_integer d && are_integers ds
+
+abbrev pub is_integer_list : Data → Bool
+is_integer_list (array ds) = are_integers ds
+is_integer_list d = false
 
 -- an array of two integers
 abbrev pub is_pair : Data → Bool
@@ -56,8 +64,12 @@ top_has_shape ms =
     keys_among top_keys ms && is_some (integer_under (codes "version") ms) && is_some (name_under (codes "name") ms)
     && may_have (is_one_of policies) (get_member (codes "policy") ms) && has_arrays ms
 
--- modules aren't served yet
+abbrev pub module_keys : List (List ℕ)
+module_keys = codes "name" ∷ codes "parent" ∷ []
+
 abbrev pub module_has_shape : Data → Bool
+module_has_shape (table ms) =
+    keys_among module_keys ms && is_some (name_under (codes "name") ms) && may_have is_short_name (get_member (codes "parent") ms)
 module_has_shape d = false
 
 abbrev pub source_keys : List (List ℕ)
@@ -76,14 +88,20 @@ sink_has_shape ms =
     keys_among sink_keys ms && is_some (integer_under (codes "beat") ms) && has is_port_list (get_member (codes "addresses") ms)
     && has is_operations (get_member (codes "supports") ms)
 
--- sources and sinks are the kinds served so far
+abbrev pub ruled_keys : List (List ℕ)
+ruled_keys = codes "name" ∷ codes "module" ∷ codes "kind" ∷ codes "args" ∷ []
+
+abbrev pub ruled_has_shape : Members → Bool
+ruled_has_shape ms = keys_among ruled_keys ms && may_have is_integer_list (get_member (codes "args") ms)
+
+-- sources and sinks have keys of their own; any other kind is a name
 abbrev pub named_kind_has_shape : Option (List ℕ) → Members → Bool
 named_kind_has_shape None ms = false
 named_kind_has_shape (Some kind) ms =
-    cond (bytes_eq kind (codes "source")) (source_has_shape ms) (cond (bytes_eq kind (codes "sink")) (sink_has_shape ms) false)
+    cond (bytes_eq kind (codes "source")) (source_has_shape ms) (cond (bytes_eq kind (codes "sink")) (sink_has_shape ms) (ruled_has_shape ms))
 
 abbrev pub kind_has_shape : Members → Bool
-kind_has_shape ms = named_kind_has_shape (text_under (codes "kind") ms) ms
+kind_has_shape ms = named_kind_has_shape (name_under (codes "kind") ms) ms
 
 abbrev pub node_has_shape : Data → Bool
 node_has_shape (table ms) =
@@ -93,9 +111,8 @@ node_has_shape d = false
 abbrev pub bind_keys : List (List ℕ)
 bind_keys = codes "to" ∷ codes "from" ∷ codes "kind" ∷ []
 
--- the kind of bind that is served so far
 abbrev pub bind_kinds : List (List ℕ)
-bind_kinds = codes ":=" ∷ []
+bind_kinds = codes ":=" ∷ codes ":=*" ∷ codes ":*=" ∷ []
 
 abbrev pub bind_has_shape : Data → Bool
 bind_has_shape (table ms) =

@@ -1,5 +1,5 @@
 -- What the tables of a design file state, where their numbers are within the limits and their names are known.
-use Rattle.std.specs.Prelude.{ℕ, ℤ, ◌-◌, ◌^◌, List, [], ◌∷◌, length, codes, Bool, true, ◌&&◌, ◌||◌, ◌==◌, cond, nat_le, bit_and, Option, Some, None, unwrap_or}
+use Rattle.std.specs.Prelude.{ℕ, ℤ, ◌+◌, ◌-◌, ◌^◌, List, [], ◌∷◌, length, take, codes, Bool, ◌&&◌, ◌||◌, ◌==◌, cond, nat_le, bit_and, Option, Some, None, unwrap_or}
 use Rattle.std.specs.Option.{option_and_then, option_map}
 use Rattle.std.specs.Str.{bytes_eq}
 use Rattle.toml.specs.Data.{Data, array, table, Items, no_items, item, Members, get_member}
@@ -9,12 +9,16 @@ use Rattle.tl_params.specs.declared.ops.Ops.{Ops}
 use Rattle.tl_params.specs.declared.ops.Policy.{Policy}
 use Rattle.tl_params.specs.declared.ops.Policy.TheVariants.{Lowest, Round}
 use Rattle.dip_graph.specs.declared.design.NodeKind.{NodeKind}
-use Rattle.dip_graph.specs.declared.design.NodeKind.TheVariants.{Source, Sink}
+use Rattle.dip_graph.specs.declared.design.NodeKind.TheVariants.{Source, Sink, Ruled}
+use Rattle.dip_graph.specs.declared.design.ModuleEntry.{ModuleEntry}
 use Rattle.dip_graph.specs.declared.design.NodeEntry.{NodeEntry}
 use Rattle.dip_graph.specs.declared.design.BindEntry.{BindEntry}
+use Rattle.dip_graph.specs.declared.design.Star.{Star}
+use Rattle.dip_graph.specs.declared.design.Star.TheVariants.{One, FromStar, ToStar}
 use Rattle.toml_shape.specs.Shapes.{integer_of, text_of, pair_of, number_within, table_under, text_under, name_under, number_under}
-use Rattle.toml_shape.specs.Numbers.{number_of}
+use Rattle.toml_shape.specs.Numbers.{is_named, number_of}
 use Rattle.soc_design.specs.declared.limits.Heading.{Heading}
+use Rattle.soc_design.specs.declared.nodes.LimitedNode.{LimitedNode}
 
 -- what each item states, where each states something
 abbrev pub before : {A : Type 0} → Option A → Option (List A) → Option (List A)
@@ -24,6 +28,11 @@ before (Some x) rest = option_map (λ xs. x ∷ xs) rest
 abbrev pub all_of : {A : Type 0} → (Data → Option A) → Items → Option (List A)
 all_of states no_items = Some []
 all_of states (item d ds) = before (states d) (all_of states ds)
+
+-- the same, where what an item states depends on its place
+abbrev pub each_of : {A : Type 0} → (ℕ → Data → Option A) → ℕ → Items → Option (List A)
+each_of states place no_items = Some []
+each_of states place (item d ds) = before (states place d) (each_of states (place + 1) ds)
 
 -- a list with so many items
 abbrev pub of_length : {A : Type 0} → ℕ → ℕ → List A → Option (List A)
@@ -121,17 +130,31 @@ sink_of ms =
     (ports_of (get_member (codes "addresses") ms)))
     (beat_under (codes "beat") ms)
 
+abbrev pub arg_of : Data → Option ℕ
+arg_of d = option_and_then (number_within 0 (2 ^ 32 - 1)) (integer_of d)
+
+-- at most 8 arguments, none where they are missing
+abbrev pub args_of : Option Data → Option (List ℕ)
+args_of None = Some []
+args_of (Some (array ds)) = option_and_then (of_length 0 8) (all_of arg_of ds)
+args_of (Some d) = None
+
+-- a node of a kind that a rule is for
+abbrev pub ruled_of : List ℕ → Members → Option NodeKind
+ruled_of kind ms = option_map (Ruled kind) (args_of (get_member (codes "args") ms))
+
 abbrev pub named_kind_of : Option (List ℕ) → Members → Option NodeKind
 named_kind_of None ms = None
-named_kind_of (Some kind) ms = cond (bytes_eq kind (codes "source")) (source_of ms) (cond (bytes_eq kind (codes "sink")) (sink_of ms) None)
+named_kind_of (Some kind) ms =
+    cond (bytes_eq kind (codes "source")) (source_of ms) (cond (bytes_eq kind (codes "sink")) (sink_of ms) (ruled_of kind ms))
 
 abbrev pub kind_of : Members → Option NodeKind
-kind_of ms = named_kind_of (text_under (codes "kind") ms) ms
+kind_of ms = named_kind_of (name_under (codes "kind") ms) ms
 
-abbrev pub node_of : Data → Option NodeEntry
+-- a node, before its module is looked up
+abbrev pub node_of : Data → Option LimitedNode
 node_of (table ms) =
-    option_and_then (λ name. option_map (λ kind. record { name = name; «module» = 0; kind = kind }) (kind_of ms))
-    (name_under (codes "name") ms)
+    option_and_then (λ name. option_map (λ kind. record { name = name; kind = kind }) (kind_of ms)) (name_under (codes "name") ms)
 node_of d = None
 
 -- ---- the top table
@@ -157,7 +180,7 @@ heading_of ms =
 
 -- ---- names
 
--- the name that a node's table has
+-- the name that a module's or a node's table has
 abbrev pub name_at : Data → List ℕ
 name_at (table ms) = unwrap_or (name_under (codes "name") ms) []
 name_at d = []
@@ -166,22 +189,67 @@ abbrev pub names_at : Items → List (List ℕ)
 names_at no_items = []
 names_at (item d ds) = name_at d ∷ names_at ds
 
--- the node's module is the top one, which is the only one so far
-abbrev pub is_module : List ℕ → Option (List ℕ) → Bool
-is_module top None = true
-is_module top (Some text) = bytes_eq text top
+-- ---- modules, whose names begin with the top one's
 
-abbrev pub is_in_top : List ℕ → Data → Bool
-is_in_top top (table ms) = is_module top (text_under (codes "module") ms)
-is_in_top top d = true
+-- the number of a module, the top one where none is named
+abbrev pub module_named : List (List ℕ) → Option (List ℕ) → Option ℕ
+module_named modules None = Some 0
+module_named modules (Some name) = number_of modules name
+
+abbrev pub module_under : List ℕ → List (List ℕ) → Members → Option ℕ
+module_under key modules ms = module_named modules (text_under key ms)
+
+-- a name that isn't one of these
+abbrev pub new_name : List (List ℕ) → List ℕ → Option (List ℕ)
+new_name names name = cond (is_named names name) None (Some name)
+
+-- a module after these: its name is a new one, and its parent one of these
+abbrev pub module_after : List (List ℕ) → Data → Option ModuleEntry
+module_after earlier (table ms) =
+    option_and_then (λ name. option_map (λ parent. record { name = name; parent = parent }) (module_under (codes "parent") earlier ms))
+    (option_and_then (new_name earlier) (name_under (codes "name") ms))
+module_after earlier d = None
+
+-- the module with a place among the tables, after the top one and the modules before it
+abbrev pub module_at : List ℕ → List (List ℕ) → ℕ → Data → Option ModuleEntry
+module_at top names place d = module_after (top ∷ take place names) d
+
+-- the top module, and those of some tables
+abbrev pub modules_of : List ℕ → Items → Option (List ModuleEntry)
+modules_of top ds = option_map (λ rest. record { name = top; parent = 0 } ∷ rest) (each_of (module_at top (names_at ds)) 0 ds)
+
+-- the number of a node's module
+abbrev pub module_of : List (List ℕ) → Data → Option ℕ
+module_of modules (table ms) = module_under (codes "module") modules ms
+module_of modules d = None
+
+abbrev pub node_in : LimitedNode → ℕ → NodeEntry
+node_in node number = record { name = node.name; «module» = number; kind = node.kind }
+
+-- a node in its module
+abbrev pub placed_node : List (List ℕ) → Data → Option NodeEntry
+placed_node modules d = option_and_then (λ node. option_map (node_in node) (module_of modules d)) (node_of d)
 
 -- ---- binds
 
 abbrev pub node_under : List ℕ → List (List ℕ) → Members → Option ℕ
 node_under key names ms = option_and_then (number_of names) (name_under key ms)
 
--- the numbers of the nodes that a bind names
+abbrev pub star_named : List ℕ → Option Star
+star_named text = cond (bytes_eq text (codes ":=")) (Some One) (cond (bytes_eq text (codes ":=*")) (Some FromStar) (cond (bytes_eq text (codes ":*=")) (Some ToStar) None))
+
+-- one edge where it is missing
+abbrev pub star_of : Option Data → Option Star
+star_of None = Some One
+star_of (Some d) = option_and_then star_named (text_of d)
+
+abbrev pub star_in : Members → Option Star
+star_in ms = star_of (get_member (codes "kind") ms)
+
+-- the numbers of the nodes that a bind names, and how many edges it makes
 abbrev pub bind_of : List (List ℕ) → Data → Option BindEntry
 bind_of names (table ms) =
-    option_and_then (λ to. option_map (λ from. record { to = to; from = from }) (node_under (codes "from") names ms)) (node_under (codes "to") names ms)
+    option_and_then (λ to. option_and_then (λ from. option_map (λ star. record { to = to; from = from; star = star }) (star_in ms))
+    (node_under (codes "from") names ms))
+    (node_under (codes "to") names ms)
 bind_of names d = None

@@ -3,6 +3,7 @@
 
 mod limits;
 mod names;
+mod nodes;
 mod read;
 mod shape;
 mod tables;

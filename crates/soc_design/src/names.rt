@@ -1,78 +1,229 @@
-ghost use Rattle.std.specs.Prelude.{◌≡◌, ◌≤◌, ◌<◌, ◌^◌, ◌+◌, length, not, IfOk, IfErr, IfSome, None, Some};
+ghost use Rattle.std.specs.Prelude.{◌≡◌, ◌≤◌, ◌<◌, ◌^◌, ◌+◌, [], ◌∷◌, length, false, All, IfOk, IfErr, IfSome, None, Some};
 ghost use Rattle.toml.specs.View.{table_view, view, items_view};
+ghost use Rattle.toml_shape.specs.Numbers.{is_named};
 ghost use Rattle.dip_lists.specs.First.{first, first_failing};
 ghost use Rattle.soc_design.specs.Stated as spec;
+ghost use Rattle.soc_design.specs.Standing.{IsTree, IsWithinLimits};
 ghost use Rattle.dip_graph.specs.Faults.{IsFaultAt, IsFaultOf};
 ghost use Rattle.soc_design.specs.Reading as reading;
-ghost use Rattle.soc_design.specs.Reading.{failing, unnamed_nodes, bind_is_unnamed};
+ghost use Rattle.soc_design.specs.Reading.{failing, unnamed_modules, unnamed_nodes, bind_is_unnamed};
 
-use crate::tables::{first_bind, first_node, tables_in};
-use dip_graph::{BindEntry, Binds, Fault};
-use dip_lists::Items;
+use crate::limits::{Heading, LimitedFile};
+use crate::nodes::{LimitedNode, LimitedNodes};
+use crate::tables::{first_bind, first_node, named, tables_in};
+use dip_graph::{BindEntry, Binds, Design, Fault, ModuleEntry, ModuleTree, NodeEntry, Nodes, Star};
+use dip_lists::{Items, Memory};
+use dip_sets::Name;
 use std::alloc::Global;
 use toml::{Table, Value};
-use toml_shape::{Names, name_under, text_under};
+use toml_shape::{Names, name_under, text_under, under};
 
-fn name_at(value: &Value) -> &str
-    ensures { result.now ≡ spec.name_at (view value.now) }
-{
-    let Value::Table(table) = value else {
-        return "";
-    };
-    name_under(table, "name").unwrap_or("")
+/// The modules of a design, and their names by their numbers.
+#[derive(Drop)]
+struct NamedModules {
+    names: Names,
+    tree: ModuleTree,
 }
 
-fn is_in_top(top: &str, value: &Value) -> bool
-    ensures { result ≡ spec.is_in_top top.now (view value.now) }
+/// The nodes of a design, and their names by their numbers.
+#[derive(Drop)]
+struct NamedNodes {
+    names: Names,
+    nodes: Nodes,
+}
+
+// The number of the module that a key names, which is the top one where the key is missing.
+fn module_under(modules: &Names, table: &Table, key: &str) -> Option<u32>
+    requires some { 1 ≤ length modules.now }
+    requires few { length modules.now ≤ 256 }
+    ensures value { result ≡ spec.module_under key.now modules.now (table_view table.now) }
+    ensures within { IfSome result (λ number. number < length modules.now) }
 {
-    let Value::Table(table) = value else {
-        return true;
-    };
-    match text_under(table, "module") {
-        Some(text) => text == top,
-        None => true,
+    match text_under(table, key) {
+        Some(name) => Some(modules.number_of(name)? as u32),
+        None => Some(0),
     }
 }
 
-// The names of the nodes in some tables, the first of which is the entry `entry`, in a design named `top`.
-fn names_in(alloc: Global, top: &str, nodes: &[Value], entry: u64) -> Result<Names, Fault>
-    requires { entry + length nodes.now < 2 ^ 64 }
-    ensures ok { IfOk result (λ names. names ≡ spec.names_at (items_view nodes.now)) }
-    ensures passes { IfOk result (λ _. first (unnamed_nodes top.now entry (items_view nodes.now)) ≡ None) }
-    ensures err { IfErr result (IsFaultAt 4 (unnamed_nodes top.now entry (items_view nodes.now))) }
+// The module that a table states after earlier ones.
+fn module_after(
+    alloc: Global,
+    earlier: &Names,
+    value: &Value,
+) -> Result<Option<ModuleEntry>, Memory>
+    requires some { 1 ≤ length earlier.now }
+    requires few { length earlier.now ≤ 256 }
+    ensures value { IfOk result (λ entry. entry ≡ spec.module_after earlier.now (view value.now)) }
+    ensures new { IfOk result (λ found. IfSome found (λ entry. is_named earlier.now entry.name ≡ false)) }
+    ensures earlier { IfOk result (λ found. IfSome found (λ entry. entry.parent < length earlier.now)) }
+    ensures named { IfOk result (λ found. IfSome found (λ entry. entry.name ≡ spec.name_at
+        (view value.now))) }
+{
+    let Value::Table(table) = value else {
+        return Ok(None);
+    };
+    let Some(text) = name_under(table, "name") else {
+        return Ok(None);
+    };
+    if earlier.has(text) {
+        return Ok(None);
+    }
+    let Some(parent) = module_under(earlier, table, "parent") else {
+        return Ok(None);
+    };
+    let name = named(alloc, text)?;
+    Ok(Some(ModuleEntry { name, parent }))
+}
+
+// The top module of a design with a name.
+fn top_module(alloc: Global, top: &Name) -> Result<NamedModules, Memory>
+    ensures names { IfOk result (λ modules. modules.names ≡ top.now ∷ []) }
+    ensures tree { IfOk result (λ modules. modules.tree ≡ record { name = top.now; parent = 0 } ∷ []) }
 {
     let mut names = Names::new(alloc);
-    for (place, node) in nodes.iter().enumerate() {
-        let name = name_at(node);
-        if names.has(name) || !is_in_top(top, node) {
+    names.add(top.as_str())?;
+    let mut tree = Items::new(alloc);
+    tree.push(ModuleEntry {
+        name: top.copy(alloc)?,
+        parent: 0,
+    })?;
+    Ok(NamedModules { names, tree })
+}
+
+// The top module and those that some tables state, the first of which is entry 1.
+fn stated_modules(alloc: Global, top: &Name, modules: &[Value]) -> Result<NamedModules, Fault>
+    requires { length modules.now ≤ 255 }
+    ensures names { IfOk result (λ stated. stated.names ≡ top.now ∷ spec.names_at (items_view modules.now)) }
+    ensures tree { IfOk result (λ stated. spec.modules_of top.now (items_view modules.now) ≡ Some
+        stated.tree) }
+    ensures some { IfOk result (λ stated. 1 ≤ length stated.names) }
+    ensures few { IfOk result (λ stated. length stated.names ≤ 256) }
+    ensures counted { IfOk result (λ stated. length stated.tree ≡ length stated.names) }
+    ensures parents { IfOk result (λ stated. IsTree stated.tree) }
+    ensures passes { IfOk result (λ _. first (unnamed_modules top.now (items_view modules.now)) ≡ None) }
+    ensures err { IfErr result (IsFaultAt 4 (unnamed_modules top.now (items_view modules.now))) }
+{
+    let NamedModules {
+        mut names,
+        mut tree,
+    } = top_module(alloc, top)?;
+    for (place, module) in modules.iter().enumerate() {
+        let Some(module) = module_after(alloc, &names, module)? else {
             return Err(Fault::Check {
                 number: 4,
-                subject: entry + place as u64,
+                subject: 1 + place as u64,
             });
-        }
-        names.add(name)?;
+        };
+        names.add(module.name.as_str())?;
+        tree.push(module)?;
     }
-    Ok(names)
+    Ok(NamedModules { names, tree })
+}
+
+// The number of the module that a node's table names.
+fn module_of(modules: &Names, value: &Value) -> Option<u32>
+    requires some { 1 ≤ length modules.now }
+    requires few { length modules.now ≤ 256 }
+    ensures value { result ≡ spec.module_of modules.now (view value.now) }
+    ensures within { IfSome result (λ number. number < length modules.now) }
+{
+    let Value::Table(table) = value else {
+        return None;
+    };
+    module_under(modules, table, "module")
+}
+
+// The nodes of some tables in their modules, the first of which is the entry `entry`; `limited` is what the
+// tables state besides.
+fn stated_nodes(
+    alloc: Global,
+    modules: &Names,
+    limited: LimitedNodes,
+    tables: &[Value],
+    entry: u64,
+) -> Result<NamedNodes, Fault>
+    requires some { 1 ≤ length modules.now }
+    requires few { length modules.now ≤ 256 }
+    requires entries { entry + length tables.now < 2 ^ 64 }
+    requires limited { spec.all_of spec.node_of (items_view tables.now) ≡ Some limited }
+    requires within { All (λ node. IsWithinLimits node.kind) limited }
+    ensures names { IfOk result (λ stated. stated.names ≡ spec.names_at (items_view tables.now)) }
+    ensures nodes { IfOk result (λ stated. spec.all_of (spec.placed_node modules.now)
+        (items_view tables.now) ≡ Some stated.nodes) }
+    ensures counted { IfOk result (λ stated. length stated.nodes ≡ length tables.now) }
+    ensures within { IfOk result (λ stated. All (λ node. IsWithinLimits node.kind) stated.nodes) }
+    ensures placed { IfOk result (λ stated. All (λ node. node.«module» < length modules.now) stated.nodes) }
+    ensures passes { IfOk result (λ _. first (unnamed_nodes modules.now entry (items_view tables.now)) ≡
+        None) }
+    ensures err { IfErr result (IsFaultAt 4 (unnamed_nodes modules.now entry (items_view tables.now))) }
+{
+    let mut limited = limited.into_vec().into_iter();
+    let mut names = Names::new(alloc);
+    let mut nodes = Items::new(alloc);
+    for (place, table) in tables.iter().enumerate() {
+        let Some(node) = limited.next() else {
+            unreachable!();
+        };
+        let unnamed = Fault::Check {
+            number: 4,
+            subject: entry + place as u64,
+        };
+        if names.has(node.name.as_str()) {
+            return Err(unnamed);
+        }
+        let Some(module) = module_of(modules, table) else {
+            return Err(unnamed);
+        };
+        names.add(node.name.as_str())?;
+        let LimitedNode { name, kind } = node;
+        nodes.push(NodeEntry { name, module, kind })?;
+    }
+    Ok(NamedNodes { names, nodes })
 }
 
 fn node_under(names: &Names, table: &Table, key: &str) -> Option<u32>
     requires { length names.now ≤ 256 }
-    ensures { result ≡ spec.node_under key.now names.now (table_view table.now) }
+    ensures value { result ≡ spec.node_under key.now names.now (table_view table.now) }
+    ensures within { IfSome result (λ number. number < length names.now) }
 {
     let number = names.number_of(name_under(table, key)?)?;
     Some(number as u32)
 }
 
+fn star_named(text: &str) -> Option<Star>
+    ensures { result ≡ spec.star_named text.now }
+{
+    match text {
+        ":=" => Some(Star::One),
+        ":=*" => Some(Star::FromStar),
+        ":*=" => Some(Star::ToStar),
+        _ => None,
+    }
+}
+
+fn star_in(table: &Table) -> Option<Star>
+    ensures { result ≡ spec.star_in (table_view table.now) }
+{
+    match under(table, "kind") {
+        None => Some(Star::One),
+        Some(Value::String(text)) => star_named(text.as_str()),
+        Some(_) => None,
+    }
+}
+
 fn bind_of(names: &Names, value: &Value) -> Option<BindEntry>
     requires { length names.now ≤ 256 }
-    ensures { result ≡ spec.bind_of names.now (view value.now) }
+    ensures value { result ≡ spec.bind_of names.now (view value.now) }
+    ensures within { IfSome result (λ bind. (bind.to < length names.now) × (bind.from < length
+        names.now)) }
 {
     let Value::Table(table) = value else {
         return None;
     };
     let to = node_under(names, table, "to")?;
     let from = node_under(names, table, "from")?;
-    Some(BindEntry { to, from })
+    let star = star_in(table)?;
+    Some(BindEntry { to, from, star })
 }
 
 // The binds that some tables state between named nodes, the first of which is the entry `entry`.
@@ -82,6 +233,8 @@ fn stated_binds(alloc: Global, names: &Names, binds: &[Value], entry: u64) -> Re
     ensures ok { IfOk result (λ stated. spec.all_of (spec.bind_of names.now) (items_view binds.now) ≡ Some
         stated) }
     ensures counted { IfOk result (λ stated. length stated ≡ length binds.now) }
+    ensures within { IfOk result (λ stated. All (λ bind. (bind.to < length names.now) × (bind.from < length
+        names.now)) stated) }
     ensures passes { IfOk result (λ _. first (failing (bind_is_unnamed names.now) 0 entry
         (items_view binds.now)) ≡ None) }
     ensures err { IfErr result (IsFaultAt 4 (failing (bind_is_unnamed names.now) 0 entry
@@ -100,23 +253,65 @@ fn stated_binds(alloc: Global, names: &Names, binds: &[Value], entry: u64) -> Re
     Ok(stated)
 }
 
-// The names of the nodes of a file.
-fn node_names(alloc: Global, top: &str, table: &Table) -> Result<Names, Fault>
-    ensures ok { IfOk result (λ names. names ≡ reading.node_names (table_view table.now)) }
-    ensures passes { IfOk result (λ _. first (reading.unnamed_nodes_in top.now (table_view table.now)) ≡
+// The modules of a file, in a design named `top`.
+fn modules_of(alloc: Global, top: &Name, table: &Table) -> Result<NamedModules, Fault>
+    requires { reading.count (reading.modules_in (table_view table.now)) ≤ 255 }
+    ensures names { IfOk result (λ modules. modules.names ≡ reading.module_names top.now
+        (table_view table.now)) }
+    ensures tree { IfOk result (λ modules. reading.stated_modules top.now (table_view table.now) ≡ Some
+        modules.tree) }
+    ensures some { IfOk result (λ modules. 1 ≤ length modules.names) }
+    ensures few { IfOk result (λ modules. length modules.names ≤ 256) }
+    ensures counted { IfOk result (λ modules. length modules.tree ≡ length modules.names) }
+    ensures parents { IfOk result (λ modules. IsTree modules.tree) }
+    ensures passes { IfOk result (λ _. first (reading.unnamed_modules_in top.now (table_view table.now)) ≡
         None) }
-    ensures err { IfErr result (IsFaultAt 4 (reading.unnamed_nodes_in top.now (table_view table.now))) }
+    ensures err { IfErr result (IsFaultAt 4 (reading.unnamed_modules_in top.now (table_view table.now))) }
 {
-    names_in(alloc, top, tables_in(table, "node"), first_node(table))
+    stated_modules(alloc, top, tables_in(table, "module"))
+}
+
+// The nodes of a file in named modules; `limited` is what their tables state besides.
+fn nodes_of(
+    alloc: Global,
+    modules: &Names,
+    limited: LimitedNodes,
+    table: &Table,
+) -> Result<NamedNodes, Fault>
+    requires some { 1 ≤ length modules.now }
+    requires few { length modules.now ≤ 256 }
+    requires limited { spec.all_of spec.node_of (reading.nodes_in (table_view table.now)) ≡ Some limited }
+    requires within { All (λ node. IsWithinLimits node.kind) limited }
+    ensures names { IfOk result (λ nodes. nodes.names ≡ reading.node_names (table_view table.now)) }
+    ensures nodes { IfOk result (λ nodes. reading.stated_nodes modules.now (table_view table.now) ≡ Some
+        nodes.nodes) }
+    ensures counted { IfOk result (λ nodes. length nodes.nodes ≡ reading.count
+        (reading.nodes_in (table_view table.now))) }
+    ensures within { IfOk result (λ nodes. All (λ node. IsWithinLimits node.kind) nodes.nodes) }
+    ensures placed { IfOk result (λ nodes. All (λ node. node.«module» < length modules.now) nodes.nodes) }
+    ensures passes { IfOk result (λ _. first (reading.unnamed_nodes_in modules.now (table_view table.now)) ≡
+        None) }
+    ensures err { IfErr result (IsFaultAt 4 (reading.unnamed_nodes_in modules.now
+        (table_view table.now))) }
+{
+    stated_nodes(
+        alloc,
+        modules,
+        limited,
+        tables_in(table, "node"),
+        first_node(table),
+    )
 }
 
 // The binds of a file between named nodes.
-fn binds_between(alloc: Global, names: &Names, table: &Table) -> Result<Binds, Fault>
+fn binds_of(alloc: Global, names: &Names, table: &Table) -> Result<Binds, Fault>
     requires { length names.now ≤ 256 }
     ensures ok { IfOk result (λ binds. spec.all_of (spec.bind_of names.now)
         (reading.binds_in (table_view table.now)) ≡ Some binds) }
     ensures counted { IfOk result (λ binds. length binds ≡ reading.count
         (reading.binds_in (table_view table.now))) }
+    ensures within { IfOk result (λ binds. All (λ bind. (bind.to < length names.now) × (bind.from < length
+        names.now)) binds) }
     ensures passes { IfOk result (λ _. first (reading.unnamed_binds_in names.now (table_view table.now)) ≡
         None) }
     ensures err { IfErr result (IsFaultAt 4 (reading.unnamed_binds_in names.now (table_view table.now))) }
@@ -124,20 +319,44 @@ fn binds_between(alloc: Global, names: &Names, table: &Table) -> Result<Binds, F
     stated_binds(alloc, names, tables_in(table, "bind"), first_bind(table))
 }
 
-/// The binds of a file; `Fault::Check` names check 4 and the first node with an earlier node's name or in
-/// an unknown module, or else the first bind that names a node that isn't there.
-pub fn named_binds(alloc: Global, top: &str, table: &Table) -> Result<Binds, Fault>
-    requires { reading.count (reading.nodes_in (table_view table.now)) ≤ 256 }
-    ensures ok { IfOk result (λ binds. spec.all_of
-        (spec.bind_of (reading.node_names (table_view table.now)))
-        (reading.binds_in (table_view table.now)) ≡ Some binds) }
-    ensures counted { IfOk result (λ binds. length binds ≡ reading.count
+/// The design of a file within the limits; `Fault::Check` names check 4 and the first module with an earlier
+/// one's name or without an earlier parent, or else the first node with an earlier node's name or in an
+/// unknown module, or else the first bind that names a node that isn't there.
+pub fn named_design(alloc: Global, file: LimitedFile, table: &Table) -> Result<Design, Fault>
+    requires nodes { spec.all_of spec.node_of (reading.nodes_in (table_view table.now)) ≡ Some file.nodes }
+    requires within { All (λ node. IsWithinLimits node.kind) file.nodes }
+    requires few_modules { reading.count (reading.modules_in (table_view table.now)) ≤ 255 }
+    requires few_nodes { reading.count (reading.nodes_in (table_view table.now)) ≤ 256 }
+    ensures ok { IfOk result (λ design. reading.design_with (table_view table.now) file.heading ≡ Some
+        design) }
+    ensures modules { IfOk result (λ design. length design.modules ≤ 256) }
+    ensures parents { IfOk result (λ design. IsTree design.modules) }
+    ensures nodes { IfOk result (λ design. length design.nodes ≡ reading.count
+        (reading.nodes_in (table_view table.now))) }
+    ensures binds { IfOk result (λ design. length design.binds ≡ reading.count
         (reading.binds_in (table_view table.now))) }
-    ensures passes { IfOk result (λ _. first_failing (reading.named_checks top.now (table_view table.now)) ≡
-        None) }
-    ensures err { IfErr result (IsFaultOf (first_failing
-        (reading.named_checks top.now (table_view table.now)))) }
+    ensures within { IfOk result (λ design. All (λ node. IsWithinLimits node.kind) design.nodes) }
+    ensures placed { IfOk result (λ design. All (λ node. node.«module» < length design.modules)
+        design.nodes) }
+    ensures bound { IfOk result (λ design. All (λ bind. (bind.to < length design.nodes) × (bind.from < length
+        design.nodes)) design.binds) }
+    ensures passes { IfOk result (λ _. first_failing (reading.named_checks file.heading.name
+        (table_view table.now)) ≡ None) }
+    ensures err { IfErr result (IsFaultOf (first_failing (reading.named_checks file.heading.name
+        (table_view table.now)))) }
 {
-    let names = node_names(alloc, top, table)?;
-    binds_between(alloc, &names, table)
+    let LimitedFile { heading, nodes } = file;
+    let Heading { name, policy } = heading;
+    let modules = modules_of(alloc, &name, table)?;
+    let named = nodes_of(alloc, &modules.names, nodes, table)?;
+    let binds = binds_of(alloc, &named.names, table)?;
+    let NamedModules { tree, .. } = modules;
+    let NamedNodes { nodes, .. } = named;
+    Ok(Design {
+        name,
+        policy,
+        modules: tree,
+        nodes,
+        binds,
+    })
 }

@@ -1,16 +1,16 @@
-ghost use Rattle.std.specs.Prelude.{◌≡◌, ◌≤◌, ◌<◌, ◌^◌, ◌+◌, length, IfOk, IfErr, IfSome, None, Some};
+ghost use Rattle.std.specs.Prelude.{◌≡◌, ◌≤◌, ◌<◌, ◌^◌, ◌+◌, length, All, IfOk, IfErr, IfSome, None, Some};
 ghost use Rattle.std.specs.Option.{option_map};
 ghost use Rattle.toml.specs.View.{table_view, items_view};
 ghost use Rattle.dip_lists.specs.First.{first, first_failing, failure_of};
-ghost use Rattle.soc_design.specs.Stated as stated;
+ghost use Rattle.soc_design.specs.Standing.{IsTree, IsWithinLimits};
 ghost use Rattle.dip_graph.specs.Faults.{IsFaultOf};
 ghost use Rattle.soc_design.specs.Reading as spec;
 
-use crate::limits::{Heading, LimitedFile, limited};
-use crate::names::named_binds;
+use crate::limits::limited;
+use crate::names::named_design;
 use crate::shape::misshapen_entry;
-use dip_graph::{Binds, Design, Fault, ModuleEntry, Nodes};
-use dip_lists::{Items, Memory};
+use dip_graph::{Design, Fault};
+use dip_lists::Memory;
 use std::alloc::Global;
 use std::str;
 use toml::Table;
@@ -35,30 +35,18 @@ fn tree_of(alloc: Global, bytes: &[u8]) -> Result<Option<Table>, Memory>
     }
 }
 
-// The design of what a file states.
-fn design_of(alloc: Global, file: LimitedFile, binds: Binds) -> Result<Design, Memory>
-    ensures { IfOk result (λ design. design ≡ spec.design_with file binds) }
-{
-    let LimitedFile { heading, nodes } = file;
-    let Heading { name, policy } = heading;
-    let mut modules = Items::new(alloc);
-    modules.push(ModuleEntry {
-        name: name.copy(alloc)?,
-        parent: 0,
-    })?;
-    Ok(Design {
-        name,
-        policy,
-        modules,
-        nodes,
-        binds,
-    })
-}
-
 fn design_in(alloc: Global, table: &Table) -> Result<Design, Fault>
     ensures ok { IfOk result (λ design. spec.design_of (table_view table.now) ≡ Some design) }
+    ensures modules { IfOk result (λ design. length design.modules ≤ 256) }
+    ensures parents { IfOk result (λ design. IsTree design.modules) }
+    ensures some_node { IfOk result (λ design. 1 ≤ length design.nodes) }
     ensures nodes { IfOk result (λ design. length design.nodes ≤ 256) }
     ensures binds { IfOk result (λ design. length design.binds ≤ 1024) }
+    ensures within { IfOk result (λ design. All (λ node. IsWithinLimits node.kind) design.nodes) }
+    ensures placed { IfOk result (λ design. All (λ node. node.«module» < length design.modules)
+        design.nodes) }
+    ensures bound { IfOk result (λ design. All (λ bind. (bind.to < length design.nodes) × (bind.from < length
+        design.nodes)) design.binds) }
     ensures passes { IfOk result (λ _. first_failing (spec.tree_checks (table_view table.now)) ≡ None) }
     ensures err { IfErr result (IsFaultOf (first_failing (spec.tree_checks (table_view table.now)))) }
 {
@@ -66,8 +54,7 @@ fn design_in(alloc: Global, table: &Table) -> Result<Design, Fault>
         return Err(Fault::Check { number: 2, subject });
     }
     let file = limited(alloc, table)?;
-    let binds = named_binds(alloc, file.heading.name.as_str(), table)?;
-    Ok(design_of(alloc, file, binds)?)
+    named_design(alloc, file, table)
 }
 
 /// The design that a file states.
@@ -77,8 +64,16 @@ fn design_in(alloc: Global, table: &Table) -> Result<Design, Fault>
 /// `Fault::Memory` nothing is known.
 pub fn read_design(alloc: Global, bytes: &[u8]) -> Result<Design, Fault>
     ensures ok { IfOk result (λ design. spec.stated_design bytes.now ≡ Some design) }
+    ensures modules { IfOk result (λ design. length design.modules ≤ 256) }
+    ensures parents { IfOk result (λ design. IsTree design.modules) }
+    ensures some_node { IfOk result (λ design. 1 ≤ length design.nodes) }
     ensures nodes { IfOk result (λ design. length design.nodes ≤ 256) }
     ensures binds { IfOk result (λ design. length design.binds ≤ 1024) }
+    ensures within { IfOk result (λ design. All (λ node. IsWithinLimits node.kind) design.nodes) }
+    ensures placed { IfOk result (λ design. All (λ node. node.«module» < length design.modules)
+        design.nodes) }
+    ensures bound { IfOk result (λ design. All (λ bind. (bind.to < length design.nodes) × (bind.from < length
+        design.nodes)) design.binds) }
     ensures passes { IfOk result (λ _. first_failing (spec.file_checks bytes.now) ≡ None) }
     ensures err { IfErr result (IsFaultOf (first_failing (spec.file_checks bytes.now))) }
 {

@@ -1,7 +1,7 @@
 ghost use Rattle.std.specs.Prelude.{◌≡◌, ◌+◌, ◌<◌, ◌^◌, length, not};
 ghost use Rattle.toml.specs.Data.{get_member};
 ghost use Rattle.toml.specs.View.{table_view, view, items_view};
-ghost use Rattle.toml_shape.specs.Shapes.{has};
+ghost use Rattle.toml_shape.specs.Shapes.{has, may_have};
 ghost use Rattle.std.specs.Option.{option_map};
 ghost use Rattle.dip_lists.specs.First.{first, first_failing, failure_of};
 ghost use Rattle.soc_design.specs.Shape as spec;
@@ -11,14 +11,18 @@ use crate::tables::{first_bind, first_node, tables_in};
 use toml::{Table, Value};
 use toml_shape::{
     integer_under, keys_among, may_have_integer, may_have_name, may_have_text, name_under, pair,
-    tables_under, text_under, under,
+    tables_under, under,
 };
 
 const TOP_KEYS: [&str; 6] = ["version", "name", "policy", "module", "node", "bind"];
 
+const MODULE_KEYS: [&str; 2] = ["name", "parent"];
+
 const SOURCE_KEYS: [&str; 6] = ["name", "module", "kind", "ids", "emits", "ports"];
 
 const SINK_KEYS: [&str; 6] = ["name", "module", "kind", "beat", "addresses", "supports"];
+
+const RULED_KEYS: [&str; 4] = ["name", "module", "kind", "args"];
 
 const BIND_KEYS: [&str; 3] = ["to", "from", "kind"];
 
@@ -30,6 +34,27 @@ const OPERATION_KEYS: [&str; 6] = [
     "logical",
     "intent",
 ];
+
+fn are_integers(items: &[Value]) -> bool
+    ensures { result ≡ spec.are_integers (items_view items.now) }
+{
+    for item in items {
+        if !matches!(item, Value::Integer(_)) {
+            return false;
+        }
+    }
+    true
+}
+
+fn may_have_integers(table: &Table, key: &str) -> bool
+    ensures { result ≡ may_have spec.is_integer_list (get_member key.now (table_view table.now)) }
+{
+    match under(table, key) {
+        None => true,
+        Some(Value::Array(items)) => are_integers(items.as_slice()),
+        Some(_) => false,
+    }
+}
 
 fn are_pairs(items: &[Value]) -> bool
     ensures { result ≡ spec.are_pairs (items_view items.now) }
@@ -128,14 +153,32 @@ fn sink_has_shape(table: &Table) -> bool
         && has_operations(table, "supports")
 }
 
+fn ruled_has_shape(table: &Table) -> bool
+    ensures { result ≡ spec.ruled_has_shape (table_view table.now) }
+{
+    keys_among(&RULED_KEYS, table) && may_have_integers(table, "args")
+}
+
 fn kind_has_shape(table: &Table) -> bool
     ensures { result ≡ spec.kind_has_shape (table_view table.now) }
 {
-    match text_under(table, "kind") {
+    match name_under(table, "kind") {
         Some("source") => source_has_shape(table),
         Some("sink") => sink_has_shape(table),
-        _ => false,
+        Some(_) => ruled_has_shape(table),
+        None => false,
     }
+}
+
+fn module_has_shape(value: &Value) -> bool
+    ensures { result ≡ spec.module_has_shape (view value.now) }
+{
+    let Value::Table(table) = value else {
+        return false;
+    };
+    keys_among(&MODULE_KEYS, table)
+        && name_under(table, "name").is_some()
+        && may_have_name(table, "parent")
 }
 
 fn node_has_shape(value: &Value) -> bool
@@ -156,15 +199,20 @@ fn bind_has_shape(value: &Value) -> bool
     keys_among(&BIND_KEYS, table)
         && name_under(table, "to").is_some()
         && name_under(table, "from").is_some()
-        && may_have_text(table, "kind", &[":="])
+        && may_have_text(table, "kind", &[":=", ":=*", ":*="])
 }
 
-// Modules aren't served yet, so the first one is the first to fail.
+// The first of some modules that hasn't its shape; the first one is entry 1.
 fn misshapen_module(modules: &[Value]) -> Option<u64>
     ensures { result ≡ first (failing (λ place d. not (spec.module_has_shape d)) 0 1
         (items_view modules.now)) }
 {
-    if modules.is_empty() { None } else { Some(1) }
+    for (place, module) in modules.iter().enumerate() {
+        if !module_has_shape(module) {
+            return Some(1 + place as u64);
+        }
+    }
+    None
 }
 
 fn misshapen_node(nodes: &[Value], entry: u64) -> Option<u64>

@@ -1,7 +1,11 @@
-ghost use Rattle.std.specs.Prelude.{◌≡◌, ◌<◌, ◌^◌};
+ghost use Rattle.std.specs.Prelude.{◌≡◌, ◌<◌, ◌^◌, IsTrue, IfOk};
 ghost use Rattle.toml.specs.View.{table_view, items_view};
+ghost use Rattle.dip_sets.specs.Names as names;
 ghost use Rattle.soc_design.specs.Reading as spec;
 
+use dip_lists::Memory;
+use dip_sets::Name;
+use std::alloc::Global;
 use toml::{Table, Value};
 use toml_shape::tables_under;
 
@@ -29,4 +33,15 @@ pub fn first_bind(table: &Table) -> u64
     ensures room { result < 2 ^ 62 }
 {
     first_node(table) + tables_in(table, "node").len() as u64
+}
+
+/// The name with a text that has the form of one.
+pub fn named(alloc: Global, text: &str) -> Result<Name, Memory>
+    requires { IsTrue (names.is_name text.now) }
+    ensures { IfOk result (λ name. name ≡ text.now) }
+{
+    match Name::new(alloc, text)? {
+        Some(name) => Ok(name),
+        None => unreachable!(),
+    }
 }

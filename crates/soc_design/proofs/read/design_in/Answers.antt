@@ -1,13 +1,11 @@
-use Rattle.std.proofs.Common.{ℕ, List, ◌≡◌, ◌∙◌, ap, sym, subst, None, ◌++◌}
+use Rattle.std.proofs.Common.{◌≡◌, ◌∙◌, ap, sym, None, ◌++◌}
 use Rattle.std.specs.Option.{option_map}
 use Rattle.std.proofs.lemmas.Result.{err_from_is_err_and}
 use Rattle.toml.specs.View.{table_view}
 use Rattle.dip_lists.specs.First.{failure_of, first_failing}
 use Rattle.dip_lists.proofs.Firsts.{fails_first}
-use Rattle.dip_graph.specs.Faults.{IsFaultOf}
-use Rattle.soc_design.specs.Stated.{heading_of}
-use Rattle.soc_design.specs.Reading.{shape_checks, limit_checks, name_checks, named_checks, heading_name}
-use Rattle.dip_graph.proofs.Finding.{in_first, in_second, both_pass}
+use Rattle.soc_design.specs.Reading.{shape_checks, limit_checks, name_checks}
+use Rattle.dip_graph.proofs.Finding.{in_first, in_second}
 use Rattle.soc_design.proofs.read.design_in.Goals as goal
 
 pub returns-in-Some-clause-err : goal.returns-in-Some-clause-err
@@ -25,14 +23,3 @@ returns-in_err-file-clause-err c =
     rw (p.1, p.2)
     (in_first (shape_checks ms ++ limit_checks ms) (name_checks ms) c.in_err-file.field-0.0
     (in_second (shape_checks ms) (limit_checks ms) c.in_err-file.field-0.0 shape c.in_err-file.ensures.err))
-
-pub returns-in_err-binds-clause-err : goal.returns-in_err-binds-clause-err
-returns-in_err-binds-clause-err c =
-    let ms = table_view c.args.table.now in
-    let p = err_from_is_err_and c.from_residual-in_err-binds.result c.from_residual-in_err-binds.ensures.1 in
-    let shape : first_failing (shape_checks ms) ≡ None = sym c.misshapen_entry.ensures ∙ ap (option_map (failure_of 2)) c.in_default.is in
-    let top : c.as_str.result.now ≡ heading_name (heading_of ms) = c.as_str.ensures.text ∙ ap heading_name (sym c.in_ok-file.ensures.heading) in
-    rw (p.1, p.2)
-    (in_second (shape_checks ms ++ limit_checks ms) (name_checks ms) c.in_err-binds.field-0.0
-    (both_pass (shape_checks ms) (limit_checks ms) shape c.in_ok-file.ensures.passes)
-    (subst (λ (name : List ℕ). IsFaultOf (first_failing (named_checks name ms)) c.in_err-binds.field-0.0) top c.in_err-binds.ensures.err))

@@ -2,7 +2,7 @@ use Rattle.std.proofs.Common.{◌≡◌, ◌∙◌, ap, sym, length}
 use Rattle.toml.specs.View.{table_view}
 use Rattle.soc_design.specs.Reading.{count, binds_in}
 use Rattle.soc_design.proofs.Counting.{count-items_view}
-use Rattle.soc_design.proofs.names.binds_between.Goals as goal
+use Rattle.soc_design.proofs.names.binds_of.Goals as goal
 
 pub returns-clause-counted : goal.returns-clause-counted
 returns-clause-counted c =

@@ -1,0 +1,11 @@
+use Rattle.std.proofs.Common.{◌≡◌, ◌∙◌, ap, sym, length}
+use Rattle.toml.specs.View.{table_view}
+use Rattle.soc_design.specs.Reading.{count, modules_in}
+use Rattle.soc_design.proofs.Counting.{count-items_view}
+use Rattle.soc_design.proofs.limits.modules_within.Goals as goal
+
+pub returns-in-None-clause-few : goal.returns-in-None-clause-few
+returns-in-None-clause-few c =
+    let n : count (modules_in (table_view c.args.table.now)) ≡ length c.tables_in.result.now =
+    ap count (sym c.tables_in.ensures) ∙ count-items_view c.tables_in.result.now in
+    rw n c.in-None.ensures.few

@@ -1,0 +1,37 @@
+use Rattle.std.proofs.Common.{ℕ, ◌≡◌, ◌<◌, ◌∙◌, List, ap, sym, refl, subst, length, arith, Some}
+use Rattle.std.specs.Prelude.{All}
+use Rattle.toml.specs.Data.{Members}
+use Rattle.toml.specs.View.{table_view}
+use Rattle.dip_graph.specs.declared.design.ModuleEntry.{ModuleEntry}
+use Rattle.dip_graph.specs.declared.design.NodeEntry.{NodeEntry}
+use Rattle.dip_graph.specs.declared.design.BindEntry.{BindEntry}
+use Rattle.soc_design.specs.declared.limits.Heading.{Heading}
+use Rattle.soc_design.specs.Stated.{all_of, bind_of}
+use Rattle.soc_design.specs.Reading.{count, nodes_in, binds_in, module_names, stated_modules, stated_nodes, stated_binds, design_with}
+use Rattle.soc_design.proofs.Counting.{count-names_at}
+use Rattle.soc_design.proofs.names.named_design.Goals as goal
+
+joined : (ms : Members) (heading : Heading) (modules : List ModuleEntry) (nodes : List NodeEntry) (binds : List BindEntry)
+    → stated_modules heading.name ms ≡ Some modules → stated_nodes (module_names heading.name ms) ms ≡ Some nodes → stated_binds ms ≡ Some binds
+    → design_with ms heading ≡ Some (record { name = heading.name; policy = heading.policy; modules = modules; nodes = nodes; binds = binds })
+joined ms heading modules nodes binds m n b = rw (m, n, b) refl
+
+pub binds_of-requires : goal.binds_of-requires
+binds_of-requires c =
+    let n : length c.in_ok-named.named.names ≡ count (nodes_in (table_view c.args.table.now)) =
+    ap length c.in_ok-named.ensures.names ∙ count-names_at (nodes_in (table_view c.args.table.now)) in
+    omega arith
+
+pub returns-clause-ok : goal.returns-clause-ok
+returns-clause-ok c =
+    let ms = table_view c.args.table.now in
+    joined ms c.args.file.heading _ _ _
+    c.in_ok-modules.ensures.tree
+    (ap (λ names. stated_nodes names ms) (sym c.in_ok-modules.ensures.names) ∙ c.in_ok-named.ensures.nodes)
+    (ap (λ names. all_of (bind_of names) (binds_in ms)) (sym c.in_ok-named.ensures.names) ∙ c.in_ok-binds.ensures.ok)
+
+pub returns-clause-bound : goal.returns-clause-bound
+returns-clause-bound c =
+    let n : length c.in_ok-named.named.names ≡ length c.in_ok-named.named.nodes =
+    ap length c.in_ok-named.ensures.names ∙ count-names_at (nodes_in (table_view c.args.table.now)) ∙ sym c.in_ok-named.ensures.counted in
+    subst (λ (most : ℕ). All (λ (b : BindEntry). (b.to < most) × (b.from < most)) c.in_ok-binds.binds) n c.in_ok-binds.ensures.within
