@@ -2,6 +2,7 @@
 use Rattle.std.specs.Prelude.{ℕ, ◌≡◌, ◌≢◌, ◌⊎◌, List, take, Option, Some, None}
 use Rattle.dip_lists.specs.First.{failure_of}
 use Rattle.dip_io.specs.Outside.{Told, FilesSeen, OutSeen, Rose, LoadsRose, AreFirst, Writes, WritesPart}
+use Rattle.dip_rule.specs.Stated.{StatedRule}
 use Rattle.soc_report.specs.declared.status.Status.{Status}
 use Rattle.soc_report.specs.declared.status.Status.TheVariants.{Done, Refused, Usage, ReadFailed, WriteFailed, Memory}
 use Rattle.soc_report.specs.Lines.{line_of}
@@ -26,33 +27,33 @@ pub record IsLoaded (words : List (List ℕ)) (files : FilesSeen) (name bytes : 
   pub first : AreFirst most_loaded (files.content name) bytes
 
 -- a text that is due: the usage, the line of a failed load, or what the loaded design calls for
-pub data Due (words : List (List ℕ)) (files : FilesSeen) (text : List ℕ) : Type 0 where
-  usage : design_named words ≡ None → text ≡ line_of Usage → Due words files text
-  read_failed : (name : List ℕ) → design_named words ≡ Some name → text ≡ line_of ReadFailed → Due words files text
-  design : (name bytes : List ℕ) → IsLoaded words files name bytes → text ≡ text_of bytes (first_failure bytes) → Due words files text
+pub data Due (rules : List StatedRule) (words : List (List ℕ)) (files : FilesSeen) (text : List ℕ) : Type 0 where
+  usage : design_named words ≡ None → text ≡ line_of Usage → Due rules words files text
+  read_failed : (name : List ℕ) → design_named words ≡ Some name → text ≡ line_of ReadFailed → Due rules words files text
+  design : (name bytes : List ℕ) → IsLoaded words files name bytes → text ≡ text_of rules bytes (first_failure rules bytes) → Due rules words files text
 
 -- What a run says of the world before and after it.
-pub record Answered (words : List (List ℕ)) (before after : World) (result : Status) : Type 0 where
+pub record Answered (rules : List StatedRule) (words : List (List ℕ)) (before after : World) (result : Status) : Type 0 where
   -- when each answer comes
   pub usage : result ≡ Usage → design_named words ≡ None
   pub read_failed : result ≡ ReadFailed → (name : List ℕ) × (design_named words ≡ Some name) × LoadsRose name before.files after.files
   pub write_failed : result ≡ WriteFailed → Rose before.out.faults after.out.faults
   pub refused : (check subject : ℕ) → result ≡ Refused check subject
-      → (name bytes : List ℕ) × IsLoaded words before.files name bytes × (first_failure bytes ≡ Some (failure_of check subject))
+      → (name bytes : List ℕ) × IsLoaded words before.files name bytes × (first_failure rules bytes ≡ Some (failure_of check subject))
   pub done : result ≡ Done
-      → (name bytes : List ℕ) × IsLoaded words before.files name bytes × (first_failure bytes ≡ None) × Writes (map_of bytes) before.out after.out
+      → (name bytes : List ℕ) × IsLoaded words before.files name bytes × (first_failure rules bytes ≡ None) × Writes (map_of rules bytes) before.out after.out
   pub memory : result ≡ Memory → (name : List ℕ) × (design_named words ≡ Some name)
   -- what was printed
   pub nothing : result ≡ Memory → after.out.written ≡ before.out.written
   pub line : result ≢ Done → result ≢ WriteFailed → result ≢ Memory → Writes (line_of result) before.out after.out
-  pub part : result ≡ WriteFailed → (text : List ℕ) × Due words before.files text × WritesPart text before.out after.out
+  pub part : result ≡ WriteFailed → (text : List ℕ) × Due rules words before.files text × WritesPart text before.out after.out
 
 -- The other direction: where the words have no stated form, the answer is the usage; where a design file is told and was
 -- loaded without a fault, the answer is what its bytes call for, written whole. A failed write and want of memory are apart.
-pub record Completed (words : List (List ℕ)) (before after : World) (result : Status) : Type 0 where
+pub record Completed (rules : List StatedRule) (words : List (List ℕ)) (before after : World) (result : Status) : Type 0 where
   pub of_words : design_named words ≡ None → (result ≡ WriteFailed) ⊎ (result ≡ Usage)
   pub of_design : (name all : List ℕ) → design_named words ≡ Some name → before.files.content name ≡ Some (Some all)
       → ¬ (LoadsRose name before.files after.files)
       → (result ≡ Memory) ⊎ (result ≡ WriteFailed)
-      ⊎ ((result ≡ answer_of (first_failure (take most_loaded all)))
-      × Writes (text_of (take most_loaded all) (first_failure (take most_loaded all))) before.out after.out)
+      ⊎ ((result ≡ answer_of (first_failure rules (take most_loaded all)))
+      × Writes (text_of rules (take most_loaded all) (first_failure rules (take most_loaded all))) before.out after.out)

@@ -10,6 +10,7 @@ use dip_io::{RealFiles, RealOut};
 use soc_report::Status;
 use std::env;
 use std::process::ExitCode;
+use tl_rules::standard_rules;
 
 // The words of the run without the program's name, none where one of them isn't text; `None` for want of
 // memory.
@@ -35,8 +36,11 @@ fn main(rt: HostRuntime) -> ExitCode {
     let Ok(copy) = copy else {
         return ExitCode::from(Status::Memory.code());
     };
+    let Ok(rules) = standard_rules(alloc) else {
+        return ExitCode::from(Status::Memory.code());
+    };
     let mut files = RealFiles::new(copy);
     let mut out = RealOut::new(rt);
-    let status = soc(alloc, words.as_slice(), &mut files, &mut out);
+    let status = soc(alloc, words.as_slice(), &mut files, &mut out, &rules);
     ExitCode::from(status.code())
 }

@@ -1,6 +1,11 @@
-ghost use Rattle.std.specs.Prelude.{◌≡◌, ◌≢◌, None, IfOk, IfErr};
+ghost use Rattle.std.specs.Prelude.{◌≡◌, ◌≢◌, ◌≤◌, None, length, map, IfOk, IfErr, All};
 ghost use Rattle.std.specs.Option.{option_map};
+ghost use Rattle.dip_lists.specs.First.{first_failing};
 ghost use Rattle.dip_io.specs.Outside.{SameContent};
+ghost use Rattle.dip_rule.specs.Stated.{stated_rule};
+ghost use Rattle.dip_negotiate.specs.Negotiation.{HasNodes};
+ghost use Rattle.dip_checks.specs.Checks.{accepted_of, design_checks};
+ghost use Rattle.soc_report.specs.MapText.{map_text};
 ghost use Rattle.dip_graph.specs.Faults.{IsFaultOf};
 ghost use Rattle.soc_report.specs.Lines.{line_of};
 ghost use Rattle.soc_program.specs.Words.{design_named, words_of};
@@ -9,8 +14,9 @@ ghost use Rattle.soc_program.specs.Printing.{Printed, RunsOn};
 ghost use Rattle.soc_program.specs.Answers.{Answered, Completed, world};
 
 use dip_checks::check_design;
-use dip_graph::Fault;
+use dip_graph::{Design, Fault};
 use dip_io::{Failed, Files, LoadFault, Out, put_all};
+use dip_rule::{Rule, Rules};
 use soc_design::read_design;
 use soc_report::{Bytes, Status, fault_text, map_text};
 use std::alloc::Global;
@@ -39,23 +45,49 @@ fn finish<O: Out>(status: Status, out: &mut O) -> Status
     print_text(&line[..count], status, out)
 }
 
-// The map of a design file, or the first check that it fails.
-fn map_design(alloc: Global, bytes: &[u8]) -> Result<Bytes, Fault>
-    ensures passes { IfOk result (λ _. first_failure bytes.now ≡ None) }
-    ensures map { IfOk result (λ text. text ≡ map_of bytes.now) }
-    ensures err { IfErr result (IsFaultOf (first_failure bytes.now)) }
+// The map of a design, or the first check that it fails.
+fn map_of(alloc: Global, design: &Design, rules: &Rules) -> Result<Bytes, Fault>
+    requires nodes { length design.now.nodes ≤ 256 }
+    requires binds { length design.now.binds ≤ 1024 }
+    requires named { All (HasNodes design.now.nodes) design.now.binds }
+    ensures passes { IfOk result (λ _. first_failing (design_checks (map (λ e. stated_rule e.kind e.template
+        ((⟦<dyn Rule as Rule>⟧ e.rule.vtable).says_down e.rule.value)
+        ((⟦<dyn Rule as Rule>⟧ e.rule.vtable).says_up e.rule.value)) rules.now.entries) design.now) ≡ None) }
+    ensures map { IfOk result (λ text. text ≡ map_text design.now (accepted_of (map (λ e. stated_rule e.kind e.template
+        ((⟦<dyn Rule as Rule>⟧ e.rule.vtable).says_down e.rule.value)
+        ((⟦<dyn Rule as Rule>⟧ e.rule.vtable).says_up e.rule.value)) rules.now.entries) design.now)) }
+    ensures err { IfErr result (IsFaultOf (first_failing (design_checks (map (λ e. stated_rule e.kind e.template
+        ((⟦<dyn Rule as Rule>⟧ e.rule.vtable).says_down e.rule.value)
+        ((⟦<dyn Rule as Rule>⟧ e.rule.vtable).says_up e.rule.value)) rules.now.entries) design.now))) }
 {
-    let design = read_design(alloc, bytes)?;
-    let accepted = check_design(alloc, &design)?;
-    let text = map_text(alloc, &design, &accepted)?;
+    let accepted = check_design(alloc, design, rules)?;
+    let text = map_text(alloc, design, &accepted)?;
     Ok(text)
 }
 
-// Runs on the bytes of a design file.
-fn run_on<O: Out>(alloc: Global, bytes: &[u8], out: &mut O) -> Status
-    ensures { RunsOn bytes.now result (O.seen out.old) (O.seen out.new) }
+// The map of a design file, or the first check that it fails.
+fn map_design(alloc: Global, bytes: &[u8], rules: &Rules) -> Result<Bytes, Fault>
+    ensures passes { IfOk result (λ _. first_failure (map (λ e. stated_rule e.kind e.template
+        ((⟦<dyn Rule as Rule>⟧ e.rule.vtable).says_down e.rule.value)
+        ((⟦<dyn Rule as Rule>⟧ e.rule.vtable).says_up e.rule.value)) rules.now.entries) bytes.now ≡ None) }
+    ensures map { IfOk result (λ text. text ≡ map_of (map (λ e. stated_rule e.kind e.template
+        ((⟦<dyn Rule as Rule>⟧ e.rule.vtable).says_down e.rule.value)
+        ((⟦<dyn Rule as Rule>⟧ e.rule.vtable).says_up e.rule.value)) rules.now.entries) bytes.now) }
+    ensures err { IfErr result (IsFaultOf (first_failure (map (λ e. stated_rule e.kind e.template
+        ((⟦<dyn Rule as Rule>⟧ e.rule.vtable).says_down e.rule.value)
+        ((⟦<dyn Rule as Rule>⟧ e.rule.vtable).says_up e.rule.value)) rules.now.entries) bytes.now)) }
 {
-    match map_design(alloc, bytes) {
+    let design = read_design(alloc, bytes)?;
+    map_of(alloc, &design, rules)
+}
+
+// Runs on the bytes of a design file.
+fn run_on<O: Out>(alloc: Global, bytes: &[u8], rules: &Rules, out: &mut O) -> Status
+    ensures { RunsOn (map (λ e. stated_rule e.kind e.template
+        ((⟦<dyn Rule as Rule>⟧ e.rule.vtable).says_down e.rule.value)
+        ((⟦<dyn Rule as Rule>⟧ e.rule.vtable).says_up e.rule.value)) rules.now.entries) bytes.now result (O.seen out.old) (O.seen out.new) }
+{
+    match map_design(alloc, bytes, rules) {
         Ok(text) => print_text(text.as_slice(), Status::Done, out),
         Err(Fault::Check { number, subject }) => finish(
             Status::Refused {
@@ -82,9 +114,17 @@ fn design_of(words: &[String]) -> Option<&str>
     }
 }
 
-fn run<F: Files, O: Out>(alloc: Global, words: &[String], files: &mut F, out: &mut O) -> Status
+fn run<F: Files, O: Out>(
+    alloc: Global,
+    words: &[String],
+    files: &mut F,
+    out: &mut O,
+    rules: &Rules,
+) -> Status
     ensures files { SameContent (F.seen files.old) (F.seen files.new) }
-    ensures answered { Answered (words_of words.now) (world (F.seen files.old) (O.seen out.old))
+    ensures answered { Answered (map (λ e. stated_rule e.kind e.template
+        ((⟦<dyn Rule as Rule>⟧ e.rule.vtable).says_down e.rule.value)
+        ((⟦<dyn Rule as Rule>⟧ e.rule.vtable).says_up e.rule.value)) rules.now.entries) (words_of words.now) (world (F.seen files.old) (O.seen out.old))
         (world (F.seen files.new) (O.seen out.new)) result }
 {
     let Some(name) = design_of(words) else {
@@ -92,7 +132,7 @@ fn run<F: Files, O: Out>(alloc: Global, words: &[String], files: &mut F, out: &m
     };
     let mut bytes = Vec::new(alloc);
     match files.load(name, MOST_LOADED, &mut bytes) {
-        Ok(()) => run_on(alloc, bytes.as_slice(), out),
+        Ok(()) => run_on(alloc, bytes.as_slice(), rules, out),
         Err(LoadFault::Failed) => finish(Status::ReadFailed, out),
         Err(LoadFault::Memory) => Status::Memory,
     }
@@ -100,13 +140,23 @@ fn run<F: Files, O: Out>(alloc: Global, words: &[String], files: &mut F, out: &m
 
 /// Does what the words ask: `map <design>` prints the map of a design file, or the first check that it fails.
 ///
-/// `words` doesn't hold the program's name. No file changes.
-pub fn soc<F: Files, O: Out>(alloc: Global, words: &[String], files: &mut F, out: &mut O) -> Status
+/// `words` doesn't hold the program's name, and `rules` are those of the kinds of nodes. No file changes.
+pub fn soc<F: Files, O: Out>(
+    alloc: Global,
+    words: &[String],
+    files: &mut F,
+    out: &mut O,
+    rules: &Rules,
+) -> Status
     ensures files { SameContent (F.seen files.old) (F.seen files.new) }
-    ensures answered { Answered (words_of words.now) (world (F.seen files.old) (O.seen out.old))
+    ensures answered { Answered (map (λ e. stated_rule e.kind e.template
+        ((⟦<dyn Rule as Rule>⟧ e.rule.vtable).says_down e.rule.value)
+        ((⟦<dyn Rule as Rule>⟧ e.rule.vtable).says_up e.rule.value)) rules.now.entries) (words_of words.now) (world (F.seen files.old) (O.seen out.old))
         (world (F.seen files.new) (O.seen out.new)) result }
-    ensures completed { Completed (words_of words.now) (world (F.seen files.old) (O.seen out.old))
+    ensures completed { Completed (map (λ e. stated_rule e.kind e.template
+        ((⟦<dyn Rule as Rule>⟧ e.rule.vtable).says_down e.rule.value)
+        ((⟦<dyn Rule as Rule>⟧ e.rule.vtable).says_up e.rule.value)) rules.now.entries) (words_of words.now) (world (F.seen files.old) (O.seen out.old))
         (world (F.seen files.new) (O.seen out.new)) result }
 {
-    run(alloc, words, files, out)
+    run(alloc, words, files, out, rules)
 }
