@@ -11,6 +11,8 @@ mod ports;
 mod shrinker;
 mod sides;
 mod standard;
+#[cfg(test)]
+mod tests;
 mod width;
 mod xbar;
 
