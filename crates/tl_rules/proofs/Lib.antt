@@ -3,3 +3,4 @@ pub mod Crossing
 pub mod Zips
 pub mod Walks
 pub mod Shifting
+pub mod StandardKinds

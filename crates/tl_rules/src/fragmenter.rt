@@ -66,9 +66,7 @@ fn cut_ops(fragments: &Sizes, ops: &Ops) -> Ops
         get: cut(fragments, &ops.get),
         put_full: cut(fragments, &ops.put_full),
         put_partial: cut(fragments, &ops.put_partial),
-        arithmetic: ops.arithmetic,
-        logical: ops.logical,
-        intent: ops.intent,
+        ..*ops
     }
 }
 
@@ -80,9 +78,7 @@ fn widened_ops(fragments: &Sizes, ops: &Ops) -> Ops
         get: widened(fragments, &ops.get),
         put_full: widened(fragments, &ops.put_full),
         put_partial: widened(fragments, &ops.put_partial),
-        arithmetic: ops.arithmetic,
-        logical: ops.logical,
-        intent: ops.intent,
+        ..*ops
     }
 }
 

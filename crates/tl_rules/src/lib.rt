@@ -11,10 +11,13 @@ mod ports;
 mod shrinker;
 mod sides;
 mod standard;
+#[cfg(test)]
+mod tests;
 mod width;
 mod xbar;
 
 pub use buffer::{buffer_down, buffer_up};
+pub use dip_rule::Rule;
 pub use fit::fits;
 pub use fragmenter::{fragmenter_down, fragmenter_up};
 pub use laws::shifted_ids_law;
@@ -24,6 +27,6 @@ pub use sides::{
     WidthRule, WidthSides, XbarRule, XbarSides, buffer_rule, fragmenter_rule, shrinker_rule,
     width_rule, xbar_rule,
 };
-pub use standard::standard_rules;
+pub use standard::{ask_standard_down, ask_standard_up, standard_rules};
 pub use width::{width_down, width_up};
 pub use xbar::{xbar_down, xbar_up};

@@ -1,5 +1,5 @@
-ghost use Rattle.std.specs.Prelude.{⊤, ◌≡◌, map, IfOk};
-ghost use Rattle.dip_rule.specs.Stated.{Answers, stated_rule};
+ghost use Rattle.std.specs.Prelude.{⊤};
+ghost use Rattle.dip_rule.specs.Stated.{Answers};
 ghost use Rattle.tl_rules.specs.Adapters.{buffer_down, buffer_up, width_down, width_up};
 ghost use Rattle.tl_rules.specs.Crossbars.{xbar_down, xbar_up};
 ghost use Rattle.tl_rules.specs.Fragments.{fragmenter_down, fragmenter_up};
@@ -10,6 +10,7 @@ use crate::fragmenter::{fragmenter_down, fragmenter_up};
 use crate::shrinker::{shrinker_down, shrinker_up};
 use crate::width::{width_down, width_up};
 use crate::xbar::{xbar_down, xbar_up};
+use dip_lists::Memory;
 use dip_rule::{AskedDown, AskedUp, RuleFault, Says, Stored};
 use std::alloc::Global;
 use tl_params::{Args, DownPort, UpPort};
@@ -49,9 +50,10 @@ impl AskedUp for BufferSides {
 /// The rule of a buffer.
 pub type BufferRule = Stored<BufferSides, BufferSides, BufferSides>;
 
-/// The rule of a buffer, which takes memory for its answers from `alloc`.
-pub fn buffer_rule(alloc: Global) -> BufferRule {
-    Stored::new(BufferSides { alloc }, BufferSides { alloc })
+/// The rule of a buffer in a box of its own, which takes memory for its answers from `alloc`.
+pub fn buffer_rule(alloc: Global) -> Result<Box<BufferRule>, Memory> {
+    let rule = Stored::new(BufferSides { alloc }, BufferSides { alloc });
+    Ok(Box::new(alloc, rule)?)
 }
 
 /// Both sides of the rule of a width adapter, with the memory that its answers take.
@@ -89,9 +91,10 @@ impl AskedUp for WidthSides {
 /// The rule of a width adapter.
 pub type WidthRule = Stored<WidthSides, WidthSides, WidthSides>;
 
-/// The rule of a width adapter, which takes memory for its answers from `alloc`.
-pub fn width_rule(alloc: Global) -> WidthRule {
-    Stored::new(WidthSides { alloc }, WidthSides { alloc })
+/// The rule of a width adapter in a box of its own, which takes memory for its answers from `alloc`.
+pub fn width_rule(alloc: Global) -> Result<Box<WidthRule>, Memory> {
+    let rule = Stored::new(WidthSides { alloc }, WidthSides { alloc });
+    Ok(Box::new(alloc, rule)?)
 }
 
 /// Both sides of the rule of a fragmenter, with the memory that its answers take.
@@ -129,9 +132,10 @@ impl AskedUp for FragmenterSides {
 /// The rule of a fragmenter.
 pub type FragmenterRule = Stored<FragmenterSides, FragmenterSides, FragmenterSides>;
 
-/// The rule of a fragmenter, which takes memory for its answers from `alloc`.
-pub fn fragmenter_rule(alloc: Global) -> FragmenterRule {
-    Stored::new(FragmenterSides { alloc }, FragmenterSides { alloc })
+/// The rule of a fragmenter in a box of its own, which takes memory for its answers from `alloc`.
+pub fn fragmenter_rule(alloc: Global) -> Result<Box<FragmenterRule>, Memory> {
+    let rule = Stored::new(FragmenterSides { alloc }, FragmenterSides { alloc });
+    Ok(Box::new(alloc, rule)?)
 }
 
 /// Both sides of the rule of a shrinker, with the memory that its answers take.
@@ -169,9 +173,10 @@ impl AskedUp for ShrinkerSides {
 /// The rule of a shrinker.
 pub type ShrinkerRule = Stored<ShrinkerSides, ShrinkerSides, ShrinkerSides>;
 
-/// The rule of a shrinker, which takes memory for its answers from `alloc`.
-pub fn shrinker_rule(alloc: Global) -> ShrinkerRule {
-    Stored::new(ShrinkerSides { alloc }, ShrinkerSides { alloc })
+/// The rule of a shrinker in a box of its own, which takes memory for its answers from `alloc`.
+pub fn shrinker_rule(alloc: Global) -> Result<Box<ShrinkerRule>, Memory> {
+    let rule = Stored::new(ShrinkerSides { alloc }, ShrinkerSides { alloc });
+    Ok(Box::new(alloc, rule)?)
 }
 
 /// Both sides of the rule of a crossbar, with the memory that its answers take.
@@ -209,7 +214,8 @@ impl AskedUp for XbarSides {
 /// The rule of a crossbar.
 pub type XbarRule = Stored<XbarSides, XbarSides, XbarSides>;
 
-/// The rule of a crossbar, which takes memory for its answers from `alloc`.
-pub fn xbar_rule(alloc: Global) -> XbarRule {
-    Stored::new(XbarSides { alloc }, XbarSides { alloc })
+/// The rule of a crossbar in a box of its own, which takes memory for its answers from `alloc`.
+pub fn xbar_rule(alloc: Global) -> Result<Box<XbarRule>, Memory> {
+    let rule = Stored::new(XbarSides { alloc }, XbarSides { alloc });
+    Ok(Box::new(alloc, rule)?)
 }

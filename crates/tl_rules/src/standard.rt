@@ -1,13 +1,13 @@
 ghost use Rattle.std.specs.Prelude.{◌≡◌, ◌++◌, [], ◌∷◌, map, IfOk, OnOk, IsTrue};
-ghost use Rattle.dip_rule.specs.Stated.{stated_rule};
+ghost use Rattle.dip_rule.specs.Stated.{Answers, down_by, rule_of, stated_rule, up_by};
 ghost use Rattle.dip_sets.specs.Names.{is_name};
-ghost use Rattle.tl_rules.specs.Standard.{kinds_by, sides};
+ghost use Rattle.tl_rules.specs.Standard.{kinds_by, sides, standard};
 
 use dip_lists::{Items, Memory};
-use dip_rule::{Rule, RuleEntries, RuleEntry, Rules};
+use dip_rule::{Rule, RuleEntries, RuleEntry, RuleFault, Rules};
 use dip_sets::Name;
 use std::alloc::Global;
-use tl_params::Template;
+use tl_params::{Args, DownPort, Template, UpPort};
 
 // The name of a kind.
 fn kind_name(alloc: Global, text: &str) -> Result<Name, Memory>
@@ -76,4 +76,45 @@ pub fn standard_rules(
     )?;
     add_rule(alloc, &mut entries, "xbar", Template::Xbar, xbar)?;
     Ok(Rules { entries })
+}
+
+/// The standard rules, boxed where this stands: no function may hand out a box that it made. It wants an
+/// expression for the memory, and a function around it that may answer `Memory` by `?`.
+#[macro_export]
+macro_rules! boxed_standard_rules {
+    ($alloc:expr) => {{
+        let alloc = $alloc;
+        let buffer: Box<dyn $crate::Rule> = $crate::buffer_rule(alloc)?;
+        let width: Box<dyn $crate::Rule> = $crate::width_rule(alloc)?;
+        let fragmenter: Box<dyn $crate::Rule> = $crate::fragmenter_rule(alloc)?;
+        let shrinker: Box<dyn $crate::Rule> = $crate::shrinker_rule(alloc)?;
+        let xbar: Box<dyn $crate::Rule> = $crate::xbar_rule(alloc)?;
+        $crate::standard_rules(alloc, buffer, width, fragmenter, shrinker, xbar)?
+    }};
+}
+
+/// What the standard rule of a kind answers down; a refusal with 0 where the kind is no standard one.
+pub fn ask_standard_down(
+    alloc: Global,
+    kind: &Name,
+    args: &Args,
+    ins: &[DownPort],
+) -> Result<DownPort, RuleFault>
+    ensures { Answers (down_by (rule_of standard kind.now) args.now ins.now) result }
+{
+    let rules = boxed_standard_rules!(alloc);
+    rules.ask_down(kind, args, ins)
+}
+
+/// What the standard rule of a kind answers up; a refusal with 0 where the kind is no standard one.
+pub fn ask_standard_up(
+    alloc: Global,
+    kind: &Name,
+    args: &Args,
+    outs: &[UpPort],
+) -> Result<UpPort, RuleFault>
+    ensures { Answers (up_by (rule_of standard kind.now) args.now outs.now) result }
+{
+    let rules = boxed_standard_rules!(alloc);
+    rules.ask_up(kind, args, outs)
 }
