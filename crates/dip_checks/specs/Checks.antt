@@ -197,9 +197,9 @@ port_checks rules design edges =
     ++ fit_checks rules design.nodes edges (solution_of rules design edges).down (solution_of rules design edges).up
 
 -- the checks 5 to 18
-abbrev pub design_checks : List StatedRule → Design → List Check
+unfoldable pub design_checks : List StatedRule → Design → List Check
 design_checks rules design = graph_checks rules design ++ port_checks rules design (edges_in rules design)
 
 -- what a design has where its checks pass
-abbrev pub accepted_of : List StatedRule → Design → Accepted
+unfoldable pub accepted_of : List StatedRule → Design → Accepted
 accepted_of rules design = record { edges = edges_in rules design; solution = solution_of rules design (edges_in rules design) }

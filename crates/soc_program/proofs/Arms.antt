@@ -11,6 +11,10 @@ use Rattle.soc_program.specs.Printing.{Printed, RunsOn}
 use Rattle.soc_program.specs.Answers.{World, IsLoaded, Due, design, read_failed, Answered, Completed, most_loaded}
 use Rattle.dip_rule.specs.Stated.{StatedRule}
 
+-- what was appended to nothing
+pub loaded : (max : ℕ) (told : Told) (before after slice : List ℕ) → before ≡ [] → slice ≡ after → AreFirst max told (drop (length before) after) → AreFirst max told slice
+loaded max told before after slice b s h = rw s (rw b at h)
+
 module _ (rules : List StatedRule) where
   pub on_memory : (words : List (List ℕ)) (before after : World) (name : List ℕ) → design_named words ≡ Some name → after.out.written ≡ before.out.written → Answered rules words before after Memory
   on_memory words before after name named kept = record {
@@ -104,10 +108,6 @@ module _ (rules : List StatedRule) where
   pub on_read_failed : (words : List (List ℕ)) (before after : World) (result : Status) (name : List ℕ) → design_named words ≡ Some name → LoadsRose name before.files after.files
       → Printed (line_of ReadFailed) ReadFailed result before.out after.out → Answered rules words before after result
   on_read_failed words before after result name named rose p = on_line words before after result name named rose p p.either
-
-  -- what was appended to nothing
-  pub loaded : (max : ℕ) (told : Told) (before after slice : List ℕ) → before ≡ [] → slice ≡ after → AreFirst max told (drop (length before) after) → AreFirst max told slice
-  loaded max told before after slice b s h = rw s (rw b at h)
 
   some_same : (a b : List ℕ) → Some a ≡ Some b → a ≡ b
   some_same a b e = (cc)

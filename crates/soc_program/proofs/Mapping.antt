@@ -14,20 +14,24 @@ use Rattle.soc_program.specs.Designs.{checks_of, first_failure, map_of, map_of_d
 
 module _ (rules : List StatedRule) (bytes : List ℕ) where
   pub file_fault : (fault : Fault) → IsFaultOf (first_failing (file_checks bytes)) fault → IsFaultOf (first_failure rules bytes) fault
+  unfolding first_failure
   file_fault fault h = in_first (file_checks bytes) (checks_of rules (stated_design bytes)) fault h
 
   module _ (design : Design) (stated : stated_design bytes ≡ Some design) (passes : first_failing (file_checks bytes) ≡ None) where
     pub design_fault : (fault : Fault) → IsFaultOf (first_failing (design_checks rules design)) fault → IsFaultOf (first_failure rules bytes) fault
+    unfolding first_failure
     design_fault fault h =
         in_second (file_checks bytes) (checks_of rules (stated_design bytes)) fault passes
         (subst (λ (o : Option Design). IsFaultOf (first_failing (checks_of rules o)) fault) (sym stated) h)
 
     pub none_fails : first_failing (design_checks rules design) ≡ None → first_failure rules bytes ≡ None
+    unfolding first_failure
     none_fails h =
         both_pass (file_checks bytes) (checks_of rules (stated_design bytes)) passes
         (subst (λ (o : Option Design). first_failing (checks_of rules o) ≡ None) (sym stated) h)
 
     pub same_map : (text : List ℕ) → text ≡ map_text design (accepted_of rules design) → text ≡ map_of rules bytes
+    unfolding map_of
     same_map text h = h ∙ ap (map_of_design rules) (sym stated)
 
     -- the same of an answer

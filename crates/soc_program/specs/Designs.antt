@@ -20,7 +20,7 @@ abbrev pub all_checks : List StatedRule → List ℕ → List Check
 all_checks rules bytes = file_checks bytes ++ checks_of rules (stated_design bytes)
 
 -- the first check that a file fails, and where
-abbrev pub first_failure : List StatedRule → List ℕ → Option Failure
+unfoldable pub first_failure : List StatedRule → List ℕ → Option Failure
 first_failure rules bytes = first_failing (all_checks rules bytes)
 
 -- the map of the design that a file states, with its only solution
@@ -28,7 +28,7 @@ abbrev pub map_of_design : List StatedRule → Option Design → List ℕ
 map_of_design rules None = []
 map_of_design rules (Some design) = map_text design (accepted_of rules design)
 
-abbrev pub map_of : List StatedRule → List ℕ → List ℕ
+unfoldable pub map_of : List StatedRule → List ℕ → List ℕ
 map_of rules bytes = map_of_design rules (stated_design bytes)
 
 -- the answer that a file calls for, and what it prints

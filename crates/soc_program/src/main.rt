@@ -7,10 +7,11 @@ mod top;
 
 use crate::top::soc;
 use dip_io::{RealFiles, RealOut};
+use dip_lists::Memory;
 use soc_report::Status;
 use std::env;
 use std::process::ExitCode;
-use tl_rules::standard_rules;
+use tl_rules::boxed_standard_rules;
 
 // The words of the run without the program's name, none where one of them isn't text; `None` for want of
 // memory.
@@ -27,20 +28,26 @@ fn words_of(rt: &HostRuntime) -> Option<Vec<String>> {
     Some(words)
 }
 
-fn main(rt: HostRuntime) -> ExitCode {
-    let Some(words) = words_of(&rt) else {
-        return ExitCode::from(Status::Memory.code());
-    };
+// The run on real files and standard output.
+fn run(rt: HostRuntime) -> Result<Status, Memory> {
     let alloc = rt.alloc();
+    let Some(words) = words_of(&rt) else {
+        return Err(Memory);
+    };
     let copy: Result<HostRuntime, _> = rt.clone();
     let Ok(copy) = copy else {
-        return ExitCode::from(Status::Memory.code());
+        return Err(Memory);
     };
-    let Ok(rules) = standard_rules(alloc) else {
-        return ExitCode::from(Status::Memory.code());
-    };
+    let rules = boxed_standard_rules!(alloc);
     let mut files = RealFiles::new(copy);
     let mut out = RealOut::new(rt);
-    let status = soc(alloc, words.as_slice(), &mut files, &mut out, &rules);
+    Ok(soc(alloc, words.as_slice(), &mut files, &mut out, &rules))
+}
+
+fn main(rt: HostRuntime) -> ExitCode {
+    let status = match run(rt) {
+        Ok(status) => status,
+        Err(Memory) => Status::Memory,
+    };
     ExitCode::from(status.code())
 }

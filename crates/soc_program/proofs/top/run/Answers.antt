@@ -5,7 +5,7 @@ use Rattle.soc_program.proofs.top.run.Goals as goal
 pub returns-in-Ok-clause-answered : goal.returns-in-Ok-clause-answered
 returns-in-Ok-clause-answered g c =
     on_bytes _ _ _ _ _ c.in-Some.name.now c.as_slice.result.now
-    (record { named = sym c.in-Some.ensures; first = loaded _ _ _ _ _ _ c.new-bytes.ensures.items c.as_slice.ensures.value c.in-Ok.ensures.ok.1 })
+    (record { named = sym c.in-Some.ensures; first = loaded _ _ _ _ _ c.new-bytes.ensures.items c.as_slice.ensures.value c.in-Ok.ensures.ok.1 })
     c.run_on.ensures
 
 pub returns-in-Err-Failed-clause-answered : goal.returns-in-Err-Failed-clause-answered
