@@ -1,0 +1,4 @@
+pub mod Agreement
+pub mod StepValues
+pub mod Walking
+pub mod Widths
