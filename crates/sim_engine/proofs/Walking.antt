@@ -90,7 +90,7 @@ refl_at xs k d b = get_or_default xs k (get_or xs k d) d b
 top_exists : (n : Netlist) (rest : List ℕ) (top : ℕ) → All (λ q. q < length n.cells) (rest ++ top ∷ []) → top < length n.cells
 top_exists n rest top h = subst (λ x. x < length n.cells) (get_or_push rest top 0 (length rest) refl) (h (length rest) 0 (omega (arith, length_push rest top)))
 
-a_at : (P : ℕ → Type 0) (xs : List ℕ) (x : ℕ) → All P xs → Contains xs x → P x
+pub a_at : (P : ℕ → Type 0) (xs : List ℕ) (x : ℕ) → All P xs → Contains xs x → P x
 a_at P xs x h c = subst P c.2 (h c.0 x c.1)
 
 sources_some : (n : Netlist) → IsWellFormed n → 0 < sources n
@@ -204,7 +204,7 @@ goes_back n old new top s d e f g =
     }
 
 -- the cell reads a net whose cell isn't done
-reads_waiting : (n : Netlist) → IsWellFormed n → (top net : ℕ) → top < length n.cells → sources n ≤ net → Contains (three (cell_at n top).op) net → Reads n (sources n + top) (sources n + (net - sources n))
+pub reads_waiting : (n : Netlist) → IsWellFormed n → (top net : ℕ) → top < length n.cells → sources n ≤ net → Contains (three (cell_at n top).op) net → Reads n (sources n + top) (sources n + (net - sources n))
 reads_waiting n w top net b h c =
     let p : 0 < sources n = sources_some n w in
     let e : net ≡ sources n + (net - sources n) = omega arith in
@@ -216,7 +216,7 @@ reads_waiting n w top net b h c =
       operand = is_operand (cell_at n top).op net (omega arith) c;
     })
 
-waiting_exists : (n : Netlist) → IsWellFormed n → (top net : ℕ) → Reads n (sources n + top) (sources n + (net - sources n)) → net - sources n < length n.cells
+pub waiting_exists : (n : Netlist) → IsWellFormed n → (top net : ℕ) → Reads n (sources n + top) (sources n + (net - sources n)) → net - sources n < length n.cells
 waiting_exists n w top net r =
     let b : sources n + (net - sources n) < length (widths n) = read_exists n w (sources n + top) (sources n + (net - sources n)) r in
     omega (arith, many n)

@@ -1,5 +1,8 @@
 //! The cycle simulator's engine: the values of a netlist's nets, cycle by cycle.
 #![tactic(auto)]
 
+mod fault;
+mod loops;
 mod order;
 mod steps;
+mod values;
