@@ -21,14 +21,20 @@ use Rattle.sim_engine.proofs.StepValues.{step_right}
 abbrev pub Agree : Netlist → (ℕ → ℕ) → List ℕ → List ℕ → Type 0
 Agree n v done values = (net : ℕ) → IsKnown n done net → get_or values net 0 ≡ v net
 
+-- a cell has at most 64 bits
+pub narrow : (n : Netlist) → IsWellFormed n → (place : ℕ) → place < length n.cells → (cell_at n place).width ≤ 64
+narrow n w place b =
+    let cell = cell_at n place in
+    let e : slice_get n.cells place ≡ Some cell = slice_get-get_or n.cells place (record { width = 0; op = op.Const 0 }) b in
+    let size : IsWidth (width_at (widths n) (sources n + place)) = w.sized (sources n + place) 0 (omega (arith, many n)) in
+    subst (λ x. x ≤ 64) (cell_width n place cell e) size.1
+
 -- the step of a cell gives its net the value that the assignment has
 step_agrees : (n : Netlist) → IsWellFormed n → (given : List ℕ) (v : ℕ → ℕ) → IsCycle n given v → (done values : List ℕ) (place : ℕ) → place < length n.cells → IsReady n done place → Agree n v done values → step_value (step_at n place) values ≡ v (sources n + place)
 step_agrees n w given v c done values place b r a =
     let cell = cell_at n place in
     let e : slice_get n.cells place ≡ Some cell = slice_get-get_or n.cells place (record { width = 0; op = op.Const 0 }) b in
-    let size : IsWidth (width_at (widths n) (sources n + place)) = w.sized (sources n + place) 0 (omega (arith, many n)) in
-    let narrow : cell.width ≤ 64 = subst (λ x. x ≤ 64) (cell_width n place cell e) size.1 in
-    step_right (widths n) (sources n + place) cell.width cell.op v values (cell_rule n w place cell e) narrow w.sized c.fits
+    step_right (widths n) (sources n + place) cell.width cell.op v values (cell_rule n w place cell e) (narrow n w place b) w.sized c.fits
     (every (λ x. get_or values x 0 ≡ v x) (operands cell.op) (λ x o. a x (r cell e x o)))
     ∙ sym (c.cells place cell e)
 

@@ -5,3 +5,5 @@ pub mod Widths
 pub mod Acyclic
 pub mod Reaching
 pub mod Least
+pub mod Stepping
+pub mod Opening

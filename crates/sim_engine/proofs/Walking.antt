@@ -93,7 +93,7 @@ top_exists n rest top h = subst (λ x. x < length n.cells) (get_or_push rest top
 pub a_at : (P : ℕ → Type 0) (xs : List ℕ) (x : ℕ) → All P xs → Contains xs x → P x
 a_at P xs x h c = subst P c.2 (h c.0 x c.1)
 
-sources_some : (n : Netlist) → IsWellFormed n → 0 < sources n
+pub sources_some : (n : Netlist) → IsWellFormed n → 0 < sources n
 sources_some n w = let b = slice_get_within n.inputs 0 _ w.reset in omega arith
 
 open_loops : (n : Netlist) (marks : List Mark) (order rest : List ℕ) (top place : ℕ) → IsWalk n marks order (rest ++ top ∷ []) → Reads n (sources n + top) (sources n + place) → mark_at marks place ≡ Open → HasLoop n
@@ -251,3 +251,18 @@ order_found n walk s e f = record {
   ordered = s.ordered;
   every = λ place b. s.finished place (not_open (mark_at walk.marks.items place) (f place b) (λ k. none_open walk.stack.items place e (s.opened place k)));
 }
+
+-- all three exist, where the operands do and there is a net
+pub three_below : (o : CellOp) (m : ℕ) → 0 < m → AllByRecursion (λ x. x < m) (operands o) → (get_or (three o) 0 0 < m) × (get_or (three o) 1 0 < m) × (get_or (three o) 2 0 < m)
+three_below (op.Const value) m p h = (p, p, p)
+three_below (op.Not x) m p h = (h.0, p, p)
+three_below (op.And x y) m p h = (h.0, h.1.0, p)
+three_below (op.Or x y) m p h = (h.0, h.1.0, p)
+three_below (op.Xor x y) m p h = (h.0, h.1.0, p)
+three_below (op.Add x y) m p h = (h.0, h.1.0, p)
+three_below (op.Sub x y) m p h = (h.0, h.1.0, p)
+three_below (op.Eq x y) m p h = (h.0, h.1.0, p)
+three_below (op.Less x y) m p h = (h.0, h.1.0, p)
+three_below (op.Mux c x y) m p h = (h.0, h.1.0, h.1.1.0)
+three_below (op.Concat x y) m p h = (h.0, h.1.0, p)
+three_below (op.Select x hi lo) m p h = (h.0, p, p)

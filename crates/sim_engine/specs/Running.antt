@@ -5,6 +5,8 @@ use Rattle.net_cells.specs.declared.netlist.OutPort.{OutPort}
 use Rattle.net_cells.specs.Rules.{widths, width_at}
 use Rattle.net_cells.specs.Values.{first_registers, next_registers}
 use Rattle.net_cells.specs.Loops.{DependsOn, HasOneCycle}
+use Rattle.sim_engine.specs.declared.fault.EngineFault.{EngineFault}
+use Rattle.sim_engine.specs.declared.fault.EngineFault.TheVariants.{Loop, Memory}
 
 -- a netlist, and what its registers hold now
 pub record Running : Type 0 where
@@ -27,3 +29,12 @@ pub record IsStep (before : Running) (inputs shown : List ℕ) (after : Running)
   pub one : HasOneCycle before.netlist (inputs ++ before.registers)
   pub outputs : shown ≡ map (λ (o : OutPort). one.value o.net) before.netlist.outputs
   pub registers : after.registers ≡ next_registers before.netlist one.value
+
+-- the netlist with all registers at 0
+abbrev pub opened : Netlist → Running
+opened n = record { netlist = n; registers = first_registers n }
+
+-- why there is no engine: the least net that depends on itself, or want of memory
+abbrev pub IsFault : Netlist → EngineFault → Type 0
+IsFault n (Loop net) = IsLeastLoop n net
+IsFault n Memory = Unit {0}

@@ -7,7 +7,7 @@ ghost use Rattle.sim_engine.specs.Walks.{HasAllDone, WaitsFor, Visited, Goes, Is
 
 use crate::steps::three;
 use dip_lists::Memory;
-use net_cells::{CellOp, Netlist};
+use net_cells::{Cell, CellOp, Netlist};
 use std::alloc::Global;
 
 /// How far the search has come with a cell.
@@ -38,6 +38,14 @@ pub fn first_cell(netlist: &Netlist) -> u64
     ensures { result ≡ sources netlist.now }
 {
     netlist.inputs.len() as u64 + netlist.regs.len() as u64
+}
+
+/// The cell at a place.
+pub fn cell_at(netlist: &Netlist, place: u64) -> Cell
+    requires { place < length netlist.now.cells }
+    ensures { result ≡ cell_at netlist.now place }
+{
+    netlist.cells.as_slice()[place as usize]
 }
 
 /// The operator of the cell at a place.

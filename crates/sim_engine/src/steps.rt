@@ -1,8 +1,12 @@
-ghost use Rattle.std.specs.Prelude.{◌≡◌, ◌+◌, ◌^◌, ◌-◌, ◌<◌, ◌≤◌, All, length};
-ghost use Rattle.net_cells.specs.Rules.{width_at, widths};
+ghost use Rattle.std.specs.Prelude.{◌≡◌, ◌+◌, ◌^◌, ◌-◌, ◌<◌, ◌≤◌, All, IfOk, length, map};
+ghost use Rattle.net_cells.specs.Rules.{IsWellFormed, width_at, widths};
+ghost use Rattle.sim_engine.specs.Orders.{step_at};
 ghost use Rattle.sim_engine.specs.Steps.{IsAmong, bits_of, evaluated, kind_of, kind_value, shift_of, step_for, step_value, three};
 
+use crate::order::{cell_at, first_cell};
+use dip_lists::Memory;
 use net_cells::{CellOp, Netlist};
+use std::alloc::Global;
 
 /// An operator without its operands.
 #[derive(Clone, Copy, Debug, PartialEq, Eq)]
@@ -170,7 +174,7 @@ fn step_value(step: &Step, values: &[u64]) -> u64
 }
 
 /// Takes the steps one after another.
-pub fn evaluate(values: &mut [u64], steps: &[Step])
+fn take_steps(values: &mut [u64], steps: &[Step])
     requires { All (IsAmong (length values.old)) steps.now }
     ensures { values.new ≡ evaluated steps.now values.old }
 {
@@ -178,4 +182,35 @@ pub fn evaluate(values: &mut [u64], steps: &[Step])
         let value = step_value(step, values);
         values[step.net as usize] = value;
     }
+}
+
+/// Evaluates the cells whose steps these are.
+pub fn evaluate(values: &mut Vec<u64>, steps: &[Step])
+    requires { All (IsAmong (length values.old.items)) steps.now }
+    ensures { values.new.items ≡ evaluated steps.now values.old.items }
+{
+    take_steps(values, steps);
+}
+
+/// The step of the cell at a place.
+fn step_at(netlist: &Netlist, place: u64) -> Step
+    requires well { IsWellFormed netlist.now }
+    requires exists { place < length netlist.now.cells }
+    ensures { result ≡ step_at netlist.now place }
+{
+    let cell = cell_at(netlist, place);
+    step_for(netlist, first_cell(netlist) + place, cell.width, cell.op)
+}
+
+/// The steps of some cells, in their order.
+pub fn steps_of(alloc: Global, netlist: &Netlist, order: &[u64]) -> Result<Vec<Step>, Memory>
+    requires well { IsWellFormed netlist.now }
+    requires exist { All (λ place. place < length netlist.now.cells) order.now }
+    ensures { IfOk result (λ steps. steps.items ≡ map (step_at netlist.now) order.now) }
+{
+    let mut steps = Vec::with_capacity(alloc, order.len())?;
+    for place in order {
+        steps.push(step_at(netlist, *place))?;
+    }
+    Ok(steps)
 }
