@@ -7,3 +7,4 @@ pub mod Reaching
 pub mod Least
 pub mod Stepping
 pub mod Opening
+pub mod Runs

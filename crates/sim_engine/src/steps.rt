@@ -1,6 +1,8 @@
 ghost use Rattle.std.specs.Prelude.{◌≡◌, ◌+◌, ◌^◌, ◌-◌, ◌<◌, ◌≤◌, All, IfOk, length, map};
+ghost use Rattle.std.specs.List.{AllWithin};
 ghost use Rattle.net_cells.specs.Rules.{IsWellFormed, width_at, widths};
 ghost use Rattle.sim_engine.specs.Orders.{step_at};
+ghost use Rattle.sim_engine.specs.declared.steps.Step.{Step};
 ghost use Rattle.sim_engine.specs.Steps.{IsAmong, bits_of, evaluated, kind_of, kind_value, shift_of, step_for, step_value, three};
 
 use crate::order::{cell_at, first_cell};
@@ -163,24 +165,79 @@ fn kind_value(kind: Kind, bits: u64, shift: u32, x: u64, y: u64, z: u64) -> u64
     }
 }
 
-fn step_value(step: &Step, values: &[u64]) -> u64
-    requires { IsAmong (length values.now) step.now }
+/// The value of a step with this operator.
+fn value_as(kind: Kind, step: &Step, values: &[u64]) -> u64
+    requires kind { step.now.kind ≡ kind }
+    requires among { IsAmong (length values.now) step.now }
     ensures { result ≡ step_value step.now values.now }
 {
     let x = values[step.x as usize];
     let y = values[step.y as usize];
     let z = values[step.z as usize];
-    kind_value(step.kind, step.bits, step.shift, x, y, z)
+    kind_value(kind, step.bits, step.shift, x, y, z)
 }
 
-/// Takes the steps one after another.
+/// Takes steps with one operator, one after another.
+fn take_all(values: &mut [u64], kind: Kind, steps: &[Step])
+    requires kinds { All (λ (s : Step). s.kind ≡ kind) steps.now }
+    requires among { All (IsAmong (length values.old)) steps.now }
+    ensures { values.new ≡ evaluated steps.now values.old }
+{
+    for step in steps {
+        let value = value_as(kind, step, values);
+        values[step.net as usize] = value;
+    }
+}
+
+/// Takes steps with one operator, which each loop knows by itself.
+fn take_run(values: &mut [u64], kind: Kind, steps: &[Step])
+    requires kinds { All (λ (s : Step). s.kind ≡ kind) steps.now }
+    requires among { All (IsAmong (length values.old)) steps.now }
+    ensures { values.new ≡ evaluated steps.now values.old }
+{
+    match kind {
+        Kind::Const => take_all(values, Kind::Const, steps),
+        Kind::Not => take_all(values, Kind::Not, steps),
+        Kind::And => take_all(values, Kind::And, steps),
+        Kind::Or => take_all(values, Kind::Or, steps),
+        Kind::Xor => take_all(values, Kind::Xor, steps),
+        Kind::Add => take_all(values, Kind::Add, steps),
+        Kind::Sub => take_all(values, Kind::Sub, steps),
+        Kind::Eq => take_all(values, Kind::Eq, steps),
+        Kind::Less => take_all(values, Kind::Less, steps),
+        Kind::Mux => take_all(values, Kind::Mux, steps),
+        Kind::Concat => take_all(values, Kind::Concat, steps),
+        Kind::Select => take_all(values, Kind::Select, steps),
+    }
+}
+
+/// Where the steps with the operator of the step at a place end.
+fn run_end(steps: &[Step], from: usize, kind: Kind) -> usize
+    requires from { from < length steps.now }
+    requires kind { AllWithin (λ (s : Step). s.kind ≡ kind) steps.now from (from + 1) }
+    ensures after { from < result }
+    ensures within { result ≤ length steps.now }
+    ensures kinds { AllWithin (λ (s : Step). s.kind ≡ kind) steps.now from result }
+{
+    for at in from + 1..steps.len() {
+        if steps[at].kind != kind {
+            return at;
+        }
+    }
+    steps.len()
+}
+
+/// Takes the steps one after another, as many at a time as have one operator.
 fn take_steps(values: &mut [u64], steps: &[Step])
     requires { All (IsAmong (length values.old)) steps.now }
     ensures { values.new ≡ evaluated steps.now values.old }
 {
-    for step in steps {
-        let value = step_value(step, values);
-        values[step.net as usize] = value;
+    let mut from = 0;
+    while from < steps.len() {
+        let kind = steps[from].kind;
+        let until = run_end(steps, from, kind);
+        take_run(values, kind, &steps[from..until]);
+        from = until;
     }
 }
 
