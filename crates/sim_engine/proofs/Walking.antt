@@ -22,7 +22,7 @@ use Rattle.sim_engine.specs.declared.order.Walk.{Walk}
 use Rattle.sim_engine.specs.declared.order.Mark.TheVariants.{New, Open, Done}
 use Rattle.sim_engine.specs.Steps.{three}
 use Rattle.sim_engine.specs.Orders.{IsKnown, IsOrder, IsReady, cell_at, AreInOrder, HasLoop}
-use Rattle.sim_engine.specs.Walks.{IsWalk, IsDone, KeepsMarks, Goes, Stands, Visited, HasAllDone, WaitsFor, left, mark_at, weight}
+use Rattle.sim_engine.specs.Walks.{IsWalk, IsDone, KeepsMarks, Goes, Stands, Visited, HasAllDone, IsIdle, WaitsFor, left, mark_at, weight}
 
 -- what stands behind the operands where there are fewer than three
 record Padded (o : CellOp) : Type 0 where
@@ -266,3 +266,21 @@ three_below (op.Less x y) m p h = (h.0, h.1.0, p)
 three_below (op.Mux c x y) m p h = (h.0, h.1.0, h.1.1.0)
 three_below (op.Concat x y) m p h = (h.0, h.1.0, p)
 three_below (op.Select x hi lo) m p h = (h.0, p, p)
+
+alone : (n : Netlist) (marks : List Mark) (order : List ℕ) (place : ℕ) → IsWalk n marks order [] → place < length n.cells → IsWalk n marks order (place ∷ [])
+alone n marks order place s b = record {
+  long = s.long;
+  placed = All-push (λ q. q < length n.cells) [] place s.placed b;
+  opened = λ q m. let k = (s.opened q m).1 in absurd (omega arith);
+  finished = s.finished;
+  path = λ i j d l m. absurd (omega arith);
+  exist = s.exist;
+  ordered = s.ordered;
+}
+
+-- a ready cell is done at once
+pub offered : (n : Netlist) (old new : Walk) (place : ℕ) → Stands n old → old.stack.items ≡ [] → place < length n.cells → HasAllDone n old place → new.marks.items ≡ set old.marks.items place Done → new.order.items ≡ old.order.items ++ place ∷ [] → new.stack.items ≡ old.stack.items → IsIdle n new
+offered n old new place s i b d e f g =
+    let a : IsWalk n old.marks.items old.order.items (place ∷ []) = alone n old.marks.items old.order.items place (subst (λ (xs : List ℕ). IsWalk n old.marks.items old.order.items xs) i s) b in
+    let h : IsWalk n old.marks.items old.order.items (old.stack.items ++ place ∷ []) = subst (λ (xs : List ℕ). IsWalk n old.marks.items old.order.items (xs ++ place ∷ [])) (sym i) a in
+    record { stands = (goes_back n old new place h d e f g).stands; idle = g ∙ i }

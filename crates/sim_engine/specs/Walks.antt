@@ -67,3 +67,8 @@ pub record WaitsFor (n : Netlist) (walk : Walk) (top place : ℕ) : Type 0 where
   pub reads : Reads n (sources n + top) (sources n + place)
   pub exists : place < length n.cells
   pub open_or_new : mark_at walk.marks.items place ≢ Done
+
+-- no cell is open
+pub record IsIdle (n : Netlist) (walk : Walk) : Type 0 where
+  pub stands : Stands n walk
+  pub idle : walk.stack.items ≡ []

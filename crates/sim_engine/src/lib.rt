@@ -1,6 +1,7 @@
 //! The cycle simulator's engine: the values of a netlist's nets, cycle by cycle.
 #![tactic(auto)]
 
+mod arrange;
 mod engine;
 mod fault;
 mod loops;

@@ -3,8 +3,9 @@ ghost use Rattle.net_cells.specs.declared.netlist.CellOp.{CellOp};
 ghost use Rattle.net_cells.specs.Rules.{IsWellFormed, sources};
 ghost use Rattle.net_cells.specs.Loops.{Reads};
 ghost use Rattle.sim_engine.specs.Orders.{HasLoop, IsOrder, IsReady, cell_at};
-ghost use Rattle.sim_engine.specs.Walks.{HasAllDone, WaitsFor, Visited, Goes, IsDone, IsWalk, KeepsMarks, Stands, left, mark_at};
+ghost use Rattle.sim_engine.specs.Walks.{HasAllDone, IsIdle, WaitsFor, Visited, Goes, IsDone, IsWalk, KeepsMarks, Stands, left, mark_at};
 
+use crate::arrange::grouped;
 use crate::steps::three;
 use dip_lists::Memory;
 use net_cells::{Cell, CellOp, Netlist};
@@ -204,15 +205,52 @@ fn start(alloc: Global, cells: usize) -> Result<Walk, Memory>
     })
 }
 
+/// Puts a cell at the end of the order, if it is new and all that it reads is done.
+fn offer(netlist: &Netlist, walk: &mut Walk, place: u64) -> Result<(), Memory>
+    requires well { IsWellFormed netlist.now }
+    requires stands { Stands netlist.now walk.old }
+    requires idle { walk.old.stack.items ≡ [] }
+    ensures { IfOk result (λ _. IsIdle netlist.now walk.new) }
+{
+    if place >= netlist.cells.len() as u64 || !is_new(walk, place) {
+        return Ok(());
+    }
+    match waits_for(netlist, walk, place) {
+        Some(_) => Ok(()),
+        None => {
+            close(walk, place)?;
+            Ok(())
+        }
+    }
+}
+
+/// Puts cells into the order, as far as they are ready in turn.
+fn offer_all(netlist: &Netlist, walk: &mut Walk, places: &[u64]) -> Result<(), Memory>
+    requires well { IsWellFormed netlist.now }
+    requires idle { IsIdle netlist.now walk.old }
+    ensures { IfOk result (λ _. IsIdle netlist.now walk.new) }
+{
+    for place in places {
+        offer(netlist, walk, *place)?;
+    }
+    Ok(())
+}
+
 /// An order in which the cells can be evaluated, by their places; `None` where a net depends on itself through
-/// cells. Takes time linear in the number of cells.
-pub fn order_of(alloc: Global, netlist: &Netlist) -> Result<Option<Vec<u64>>, Memory>
+/// cells. It begins with the given cells, as far as they are ready in turn. Takes time linear in the number of
+/// cells.
+fn order_from(
+    alloc: Global,
+    netlist: &Netlist,
+    places: &[u64],
+) -> Result<Option<Vec<u64>>, Memory>
     requires { IsWellFormed netlist.now }
     ensures { IfOk result (λ found. MatchOption found (HasLoop netlist.now)
         (λ order. IsOrder netlist.now order.items)) }
 {
     let cells = netlist.cells.len();
     let mut walk = start(alloc, cells)?;
+    offer_all(netlist, &mut walk, places)?;
     for root in 0..cells as u64 {
         if !visit(netlist, &mut walk, root)? {
             return Ok(None);
@@ -224,4 +262,18 @@ pub fn order_of(alloc: Global, netlist: &Netlist) -> Result<Option<Vec<u64>>, Me
         stack: _,
     } = walk;
     Ok(Some(order))
+}
+
+/// An order in which the cells can be evaluated, by their places; `None` where a net depends on itself through
+/// cells. In it, cells with one operator stand together where they can. Takes time linear in the number of cells.
+pub fn order_of(alloc: Global, netlist: &Netlist) -> Result<Option<Vec<u64>>, Memory>
+    requires { IsWellFormed netlist.now }
+    ensures { IfOk result (λ found. MatchOption found (HasLoop netlist.now)
+        (λ order. IsOrder netlist.now order.items)) }
+{
+    let Some(order) = order_from(alloc, netlist, &[])? else {
+        return Ok(None);
+    };
+    let places = grouped(alloc, netlist, order.as_slice())?;
+    order_from(alloc, netlist, places.as_slice())
 }

@@ -65,7 +65,8 @@ pub fn three(op: CellOp) -> [u64; 3]
     }
 }
 
-fn kind_of(op: CellOp) -> Kind
+/// The operator alone.
+pub fn kind_of(op: CellOp) -> Kind
     ensures { result ≡ kind_of op }
 {
     match op {

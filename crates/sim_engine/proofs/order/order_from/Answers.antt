@@ -1,6 +1,6 @@
 use Rattle.std.proofs.Common.{arith}
 use Rattle.sim_engine.proofs.Walking.{order_found}
-use Rattle.sim_engine.proofs.order.order_of.Goals as goal
+use Rattle.sim_engine.proofs.order.order_from.Goals as goal
 
 pub returns : goal.returns
 returns c =

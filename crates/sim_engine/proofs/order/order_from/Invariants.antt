@@ -1,7 +1,7 @@
 use Rattle.std.proofs.Common.{◌≡◌, ◌≢◌, ℕ, ◌<◌, []}
 use Rattle.sim_engine.specs.declared.order.Mark.TheVariants.{New}
 use Rattle.sim_engine.specs.Walks.{Stands, mark_at}
-use Rattle.sim_engine.proofs.order.order_of.Given as goal
+use Rattle.sim_engine.proofs.order.order_from.Given as goal
 
 abbrev pub invariant-loop-root : goal.invariant-loop-root
 invariant-loop-root l = record {
