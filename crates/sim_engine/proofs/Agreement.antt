@@ -1,15 +1,14 @@
 -- The values after the steps of an order are those of every assignment that the given values allow.
 use Rattle.std.proofs.Common.{◌≡◌, ℕ, ◌+◌, ◌-◌, ◌<◌, ◌≤◌, inl, inr, List, [], ◌∷◌, ◌++◌, length, map, get_or, set, refl, sym, ap, ◌∙◌, subst, arith, append_assoc}
-use Rattle.std.specs.Prelude.{Some, Contains, All, slice_get}
+use Rattle.std.specs.Prelude.{Some, Contains, slice_get}
 use Rattle.std.proofs.lemmas.Bool.{cases_eq}
 use Rattle.std.proofs.lemmas.List.{get_or-set_other, get_or-set_same, length-set, append-nil}
 use Rattle.std.proofs.lemmas.List.Elements.{Contains-push_cases, Contains-append_right}
 use Rattle.std.proofs.lemmas.Option.{slice_get-get_or}
-use Rattle.net_cells.specs.declared.netlist.Cell.{Cell}
 use Rattle.net_cells.specs.declared.netlist.CellOp.TheVariants as op
 use Rattle.net_cells.specs.declared.netlist.Netlist.{Netlist}
 use Rattle.net_cells.specs.Rules.{IsWellFormed, IsWidth, sources, widths, width_at}
-use Rattle.net_cells.specs.Values.{IsCycle, op_value}
+use Rattle.net_cells.specs.Values.{IsCycle}
 use Rattle.net_cells.specs.Loops.{operands}
 use Rattle.net_cells.proofs.Operators.{every}
 use Rattle.net_cells.proofs.Cycles.{cell_rule, cell_width, many}

@@ -1,6 +1,6 @@
 -- How the search for the cells that a cell depends on goes on.
-use Rattle.std.proofs.Common.{◌≡◌, ℕ, ◌+◌, ◌-◌, ◌<◌, ◌≤◌, ◌⊎◌, inl, inr, Bool, true, false, List, [], ◌∷◌, ◌++◌, length, get_or, set, refl, sym, ap, ◌∙◌, subst, arith}
-use Rattle.std.specs.Prelude.{Some, Contains, All, slice_get}
+use Rattle.std.proofs.Common.{◌≡◌, ℕ, ◌+◌, ◌-◌, ◌<◌, ◌⊎◌, inl, inr, Bool, true, false, List, [], ◌∷◌, ◌++◌, length, get_or, set, refl, sym, ap, ◌∙◌, subst, arith}
+use Rattle.std.specs.Prelude.{Contains, All}
 use Rattle.std.proofs.lemmas.Bool.{cases_eq}
 use Rattle.std.proofs.lemmas.List.{get_or-set_other, get_or-set_same, length-set, get_or_append_left, length_push}
 use Rattle.std.proofs.lemmas.List.Sums.{sum_by-set}
@@ -79,11 +79,13 @@ may_all n w start place nets e b o k d l = λ h.
     let c : Contains (three (cell_at n place).op) net = subst (λ (xs : List ℕ). Contains xs net) e (k, l, get_or_default nets k net d l) in
     let r = reads_waiting n w place net b h c in
     let f : sources n + (net - sources n) ≡ net = omega arith in
-    let s = subst (λ x. Reads n (sources n + place) x) f r in
-    (waiting_exists n w place net r, elim o [
-      | inl g ↦ ([], subst (λ x. Reads n (sources n + x) net) g s)
-      | inr p ↦ (p.0 ++ (sources n + place) ∷ [], path_more n (sources n + start) p.0 (sources n + place) net p.1 s)
-    ])
+    let s = subst (λ x. Reads n (sources n + place) x) f r in (
+      waiting_exists n w place net r,
+      elim o [
+        | inl g ↦ ([], subst (λ x. Reads n (sources n + x) net) g s)
+        | inr p ↦ (p.0 ++ (sources n + place) ∷ [], path_more n (sources n + start) p.0 (sources n + place) net p.1 s)
+      ],
+    )
 
 -- all that it reads is known
 pub ready_known : (n : Netlist) (found : List ℕ) (place : ℕ) (nets : List ℕ) → nets ≡ three (cell_at n place).op → All (IsKnown n found) nets → IsReady n found place

@@ -1,6 +1,6 @@
 -- A step gives its net the value of the cell's operator, where its operands have theirs.
-use Rattle.std.proofs.Common.{◌≡◌, ℕ, ◌+◌, ◌-◌, ◌*◌, ◌/◌, ◌%◌, ◌^◌, ◌<◌, ◌≤◌, Bool, List, [], ◌∷◌, length, get_or, refl, sym, ap, ◌∙◌, subst, arith, if◌then◌else◌}
-use Rattle.std.specs.Prelude.{◌==◌, nat_lt, bit_and, bit_or, bit_xor, Contains, All}
+use Rattle.std.proofs.Common.{◌≡◌, ℕ, ◌+◌, ◌-◌, ◌*◌, ◌/◌, ◌%◌, ◌^◌, ◌<◌, ◌≤◌, List, length, get_or, refl, ap, ◌∙◌, subst, arith, if◌then◌else◌}
+use Rattle.std.specs.Prelude.{◌==◌, nat_lt, bit_and, bit_or, bit_xor, All}
 use Rattle.std.specs.List.{AllByRecursion}
 use Rattle.std.proofs.lemmas.Nat.{and_mask, pow_pos, pow-add, or_shifted, mul-add-lt}
 use Rattle.std.proofs.Math.Nat.{mod-eq_of_lt, mul-add, add-mul-mod_self_left}
@@ -26,9 +26,9 @@ difference x y w h k =
     let p : 2 ^ (w + (64 - w)) ≡ 2 ^ w * 2 ^ (64 - w) = pow-add 2 w (64 - w) in
     let q : 0 < 2 ^ (64 - w) = pow_pos (64 - w) in
     let r : 2 ^ w * 2 ^ (64 - w) ≡ 2 ^ w + 2 ^ w * (2 ^ (64 - w) - 1) =
-        let t : 2 ^ (64 - w) ≡ 1 + (2 ^ (64 - w) - 1) = omega arith in
-        let u : 2 ^ w * 1 + 2 ^ w * (2 ^ (64 - w) - 1) ≡ 2 ^ w + 2 ^ w * (2 ^ (64 - w) - 1) = omega arith in
-        ap (λ k. 2 ^ w * k) t ∙ mul-add (2 ^ w) 1 (2 ^ (64 - w) - 1) ∙ u in
+    let t : 2 ^ (64 - w) ≡ 1 + (2 ^ (64 - w) - 1) = omega arith in
+    let u : 2 ^ w * 1 + 2 ^ w * (2 ^ (64 - w) - 1) ≡ 2 ^ w + 2 ^ w * (2 ^ (64 - w) - 1) = omega arith in
+    ap (λ k. 2 ^ w * k) t ∙ mul-add (2 ^ w) 1 (2 ^ (64 - w) - 1) ∙ u in
     let s : x + (2 ^ 64 - y) ≡ x + 2 ^ w - y + 2 ^ w * (2 ^ (64 - w) - 1) = omega (arith, e, p, r) in
     ap (λ m. m % 2 ^ w) s ∙ add-mul-mod_self_left (x + 2 ^ w - y) (2 ^ w) (2 ^ (64 - w) - 1)
 

@@ -1,26 +1,23 @@
 -- A cycle of an engine: its values are the only ones, and it is an engine afterwards.
-use Rattle.std.proofs.Common.{◌≡◌, ℕ, zero, suc, ◌+◌, ◌-◌, ◌^◌, ◌<◌, ◌≤◌, inl, inr, List, [], ◌∷◌, ◌++◌, length, map, take, drop, get_or, set, refl, sym, ap, ◌∙◌, subst, arith, append_assoc, length-append}
-use Rattle.std.specs.Prelude.{Contains, All, Some, slice_index, slice_get}
-use Rattle.std.specs.List.{AllByRecursion}
+use Rattle.std.proofs.Common.{◌≡◌, ℕ, suc, ◌+◌, ◌-◌, ◌^◌, ◌<◌, ◌≤◌, inl, inr, List, [], ◌∷◌, ◌++◌, length, map, take, drop, get_or, set, refl, sym, ap, ◌∙◌, subst, arith, append_assoc, length-append}
+use Rattle.std.specs.Prelude.{All, slice_index}
 use Rattle.std.proofs.lemmas.Bool.{cases_lt}
-use Rattle.std.proofs.lemmas.List.{get_or_append_left, get_or-append_right, get_or-append-add, get_or-take, get_or-drop, get_or-map, length-map, length-take-le, length-drop, length-set}
+use Rattle.std.proofs.lemmas.List.{get_or_append_left, get_or-append_right, get_or-append-add, get_or-take, get_or-map, length-map, length-take-le, length-drop, length-set}
 use Rattle.std.proofs.Math.Seq.{take-append_seam, drop-append_seam}
 use Rattle.std.proofs.lemmas.List.Elements.{All-map}
 use Rattle.net_cells.specs.declared.netlist.Cell.{Cell}
-use Rattle.net_cells.specs.declared.netlist.CellOp.{CellOp}
-use Rattle.net_cells.specs.declared.netlist.CellOp.TheVariants as op
 use Rattle.net_cells.specs.declared.netlist.Netlist.{Netlist}
 use Rattle.net_cells.specs.declared.netlist.OutPort.{OutPort}
 use Rattle.net_cells.specs.declared.netlist.Port.{Port}
 use Rattle.net_cells.specs.declared.netlist.Reg.{Reg}
-use Rattle.net_cells.specs.Rules.{IsWellFormed, IsCell, sources, widths, width_at}
+use Rattle.net_cells.specs.Rules.{IsWellFormed, sources, widths, width_at}
 use Rattle.net_cells.specs.Values.{IsCycle, next_registers}
-use Rattle.net_cells.specs.Loops.{AreGiven, HasOneCycle, operands}
-use Rattle.net_cells.proofs.Operators.{exist, pick}
+use Rattle.net_cells.specs.Loops.{AreGiven, HasOneCycle}
+use Rattle.net_cells.proofs.Operators.{exist}
 use Rattle.net_cells.proofs.Cycles.{many, cell_rule, one_cycle}
 use Rattle.sim_engine.specs.declared.steps.Step.{Step}
-use Rattle.sim_engine.specs.Steps.{IsAmong, evaluated, step_value, three}
-use Rattle.sim_engine.specs.Orders.{IsOrder, cell_at, step_at}
+use Rattle.sim_engine.specs.Steps.{IsAmong, evaluated, step_value}
+use Rattle.sim_engine.specs.Orders.{cell_at, step_at}
 use Rattle.sim_engine.specs.Engines.{AreSteps, IsEngine, RegistersFit, places_of, registers_in}
 use Rattle.sim_engine.specs.Running.{AreInputs, IsStep, Running}
 use Rattle.sim_engine.proofs.Agreement.{Agree, agree_all}

@@ -1,6 +1,6 @@
 -- How the search for an order goes on.
-use Rattle.std.proofs.Common.{◌≡◌, ◌≢◌, ℕ, ◌+◌, ◌-◌, ◌<◌, ◌≤◌, inl, inr, List, [], ◌∷◌, ◌++◌, length, map, get_or, set, refl, sym, ap, ◌∙◌, subst, arith, append_assoc}
-use Rattle.std.specs.Prelude.{Some, Contains, All, AllPairs, slice_get}
+use Rattle.std.proofs.Common.{◌≡◌, ◌≢◌, ℕ, ◌+◌, ◌-◌, ◌<◌, ◌≤◌, inl, inr, List, [], ◌∷◌, ◌++◌, length, get_or, set, refl, sym, ap, ◌∙◌, subst, arith, append_assoc}
+use Rattle.std.specs.Prelude.{Contains, All, AllPairs}
 use Rattle.std.specs.List.{AllByRecursion}
 use Rattle.std.proofs.lemmas.Bool.{cases_eq, cases_lt}
 use Rattle.std.proofs.lemmas.List.{get_or-set_other, get_or-set_same, length-set, append-nil, get_or_append_left, get_or_push, get_or_default, length_push}
@@ -21,8 +21,8 @@ use Rattle.sim_engine.specs.declared.order.Mark.{Mark}
 use Rattle.sim_engine.specs.declared.order.Walk.{Walk}
 use Rattle.sim_engine.specs.declared.order.Mark.TheVariants.{New, Open, Done}
 use Rattle.sim_engine.specs.Steps.{three}
-use Rattle.sim_engine.specs.Orders.{IsKnown, IsOrder, IsReady, cell_at, AreInOrder, HasLoop}
-use Rattle.sim_engine.specs.Walks.{IsWalk, IsDone, KeepsMarks, Goes, Stands, Visited, HasAllDone, IsIdle, WaitsFor, left, mark_at, weight}
+use Rattle.sim_engine.specs.Orders.{IsOrder, IsReady, cell_at, AreInOrder, HasLoop}
+use Rattle.sim_engine.specs.Walks.{IsWalk, IsDone, KeepsMarks, Goes, Stands, HasAllDone, IsIdle, WaitsFor, left, mark_at, weight}
 
 -- what stands behind the operands where there are fewer than three
 record Padded (o : CellOp) : Type 0 where

@@ -6,7 +6,6 @@ use Rattle.net_cells.specs.declared.netlist.Reg.{Reg}
 use Rattle.net_cells.specs.Rules.{IsWellFormed, sources, widths, width_at}
 use Rattle.sim_engine.specs.declared.steps.Step.{Step}
 use Rattle.sim_engine.specs.Orders.{IsOrder, step_at}
-use Rattle.sim_engine.specs.Running.{Running}
 
 -- what the registers hold, among the values of all nets
 abbrev pub registers_in : Netlist → List ℕ → List ℕ

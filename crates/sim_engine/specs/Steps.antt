@@ -1,10 +1,8 @@
 -- What the engine computes: a cell as a step of the machine, and the values of all nets after some steps.
 use Rattle.std.specs.Prelude.{ℕ, ◌+◌, ◌-◌, ◌*◌, ◌/◌, ◌%◌, ◌^◌, ◌<◌, nat_lt, ◌==◌, if◌then◌else◌, List, [], ◌∷◌, slice_index, slice_set, bit_and, bit_or, bit_xor}
-use Rattle.net_cells.specs.declared.netlist.Cell.{Cell}
 use Rattle.net_cells.specs.declared.netlist.CellOp.{CellOp}
 use Rattle.net_cells.specs.declared.netlist.CellOp.TheVariants as op
-use Rattle.net_cells.specs.declared.netlist.Netlist.{Netlist}
-use Rattle.net_cells.specs.Rules.{sources, widths, width_at}
+use Rattle.net_cells.specs.Rules.{width_at}
 use Rattle.sim_engine.specs.declared.steps.Kind.{Kind}
 use Rattle.sim_engine.specs.declared.steps.Kind.TheVariants.{Const, Not, And, Or, Xor, Add, Sub, Eq, Less, Mux, Concat, Select}
 use Rattle.sim_engine.specs.declared.steps.Step.{Step}

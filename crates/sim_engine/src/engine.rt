@@ -35,11 +35,12 @@ impl Model for Engine {
     ghost use Rattle.sim_engine.specs.Engines.{IsEngine, registers_in};
 
     ghost view = { λ e. record {
-        netlist = e.netlist;
-        registers = registers_in e.netlist e.values.items;
+      netlist = e.netlist;
+      registers = registers_in e.netlist e.values.items;
     } };
 
-    ghost invariant = { λ e. IsEngine e.netlist e.steps.items e.shown.items e.nexts.items e.values.items e.kept.items };
+    ghost invariant = { λ e. IsEngine e.netlist e.steps.items e.shown.items e.nexts.items e.values.items
+        e.kept.items };
 }
 
 /// The nets of the outputs.
@@ -94,16 +95,15 @@ fn loop_in(alloc: Global, netlist: &Netlist) -> EngineFault
 }
 
 impl Engine {
-    /// The engine of a well-formed netlist, with all registers at 0. It finds the order of evaluation, in time
-    /// linear in the size of the netlist, and takes all memory of the run.
+    /// The engine of a well-formed netlist, with all registers at 0. It finds the order of evaluation, in
+    /// time linear in the size of the netlist, and takes all memory of the run.
     ///
-    /// # Errors
-    ///
-    /// `Loop` exactly where a net depends on itself through cells, with the least such net, and `Memory` for
-    /// want of memory.
+    /// It answers `Loop` exactly where a net depends on itself through cells, with the least such net, and
+    /// `Memory` for want of memory.
     pub fn open(alloc: Global, netlist: Netlist) -> Result<Engine, EngineFault>
         requires { IsWellFormed netlist }
-        ensures { MatchResult result (λ engine. HasNoLoop netlist × (engine ≡ opened netlist)) (IsFault netlist) }
+        ensures { MatchResult result (λ engine. HasNoLoop netlist × (engine ≡ opened netlist))
+            (IsFault netlist) }
     {
         match order_of(alloc, &netlist)? {
             Some(order) => Ok(engine_of(alloc, netlist, order.as_slice())?),
@@ -111,18 +111,24 @@ impl Engine {
         }
     }
 
-    /// Runs one cycle. The outputs are filled with their values under the only assignment for these inputs and
-    /// for what the registers hold; then the registers take the values of their next nets. It takes no memory.
+    /// Runs one cycle. The outputs are filled with their values under the only assignment for these inputs
+    /// and for what the registers hold; then the registers take the values of their next nets. It takes no
+    /// memory.
     pub fn cycle(&mut self, inputs: &[u64], outputs: &mut [u64])
         requires inputs { AreInputs self.old.netlist inputs.now }
         requires outputs { length outputs.old ≡ length self.old.netlist.outputs }
         ensures { IsStep self.old inputs.now outputs.new self.new }
     {
+        let first = self.netlist.inputs.len();
         put(&mut self.values, 0, inputs);
         evaluate(&mut self.values, self.steps.as_slice());
         gather(self.values.as_slice(), self.shown.as_slice(), outputs);
-        keep(self.values.as_slice(), self.nexts.as_slice(), &mut self.kept);
-        put(&mut self.values, self.netlist.inputs.len(), self.kept.as_slice());
+        keep(
+            self.values.as_slice(),
+            self.nexts.as_slice(),
+            &mut self.kept,
+        );
+        put(&mut self.values, first, self.kept.as_slice());
     }
 
     /// The sum of the values that the registers hold now, modulo 2^64.

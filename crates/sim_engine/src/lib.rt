@@ -11,3 +11,6 @@ mod values;
 
 pub use engine::Engine;
 pub use fault::EngineFault;
+
+#[cfg(test)]
+mod tests;

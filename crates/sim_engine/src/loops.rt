@@ -93,7 +93,8 @@ fn expand(netlist: &Netlist, reach: &mut Reach, start: u64, place: u64) -> Resul
     requires well { IsWellFormed netlist.now }
     requires reaches { Reaches netlist.now start reach.old }
     requires exists { place < length netlist.now.cells }
-    requires on { (place ≡ start) ⊎ DependsOn netlist.now (sources netlist.now + start) (sources netlist.now + place) }
+    requires on { (place ≡ start)
+        ⊎ DependsOn netlist.now (sources netlist.now + start) (sources netlist.now + place) }
     ensures reaches { IfOk result (λ _. Reaches netlist.now start reach.new) }
     ensures extends { IfOk result (λ _. Extends reach.old.found.items reach.new.found.items) }
     ensures ready { IfOk result (λ _. IsReady netlist.now reach.new.found.items place) }

@@ -236,14 +236,10 @@ fn offer_all(netlist: &Netlist, walk: &mut Walk, places: &[u64]) -> Result<(), M
     Ok(())
 }
 
-/// An order in which the cells can be evaluated, by their places; `None` where a net depends on itself through
-/// cells. It begins with the given cells, as far as they are ready in turn. Takes time linear in the number of
-/// cells.
-fn order_from(
-    alloc: Global,
-    netlist: &Netlist,
-    places: &[u64],
-) -> Result<Option<Vec<u64>>, Memory>
+/// An order in which the cells can be evaluated, by their places; `None` where a net depends on itself
+/// through cells. It begins with the given cells, as far as they are ready in turn. Takes time linear in the
+/// number of cells.
+fn order_from(alloc: Global, netlist: &Netlist, places: &[u64]) -> Result<Option<Vec<u64>>, Memory>
     requires { IsWellFormed netlist.now }
     ensures { IfOk result (λ found. MatchOption found (HasLoop netlist.now)
         (λ order. IsOrder netlist.now order.items)) }
@@ -264,8 +260,9 @@ fn order_from(
     Ok(Some(order))
 }
 
-/// An order in which the cells can be evaluated, by their places; `None` where a net depends on itself through
-/// cells. In it, cells with one operator stand together where they can. Takes time linear in the number of cells.
+/// An order in which the cells can be evaluated, by their places; `None` where a net depends on itself
+/// through cells. In it, cells with one operator stand together where they can. Takes time linear in the
+/// number of cells.
 pub fn order_of(alloc: Global, netlist: &Netlist) -> Result<Option<Vec<u64>>, Memory>
     requires { IsWellFormed netlist.now }
     ensures { IfOk result (λ found. MatchOption found (HasLoop netlist.now)

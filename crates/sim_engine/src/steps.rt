@@ -154,13 +154,7 @@ fn kind_value(kind: Kind, bits: u64, shift: u32, x: u64, y: u64, z: u64) -> u64
         Kind::Sub => x.wrapping_sub(y) & bits,
         Kind::Eq => u64::from(x == y),
         Kind::Less => u64::from(x < y),
-        Kind::Mux => {
-            if x == 1 {
-                y
-            } else {
-                z
-            }
-        }
+        Kind::Mux => { if x == 1 { y } else { z } }
         Kind::Concat => x.wrapping_shl(shift) | y,
         Kind::Select => x.wrapping_shr(shift) & bits,
     }

@@ -1,4 +1,4 @@
-use Rattle.std.proofs.Common.{ℕ, arith, sym, ◌∙◌, below_more}
+use Rattle.std.proofs.Common.{arith, sym, ◌∙◌, below_more}
 use Rattle.std.proofs.lemmas.Bool.{false≢true}
 use Rattle.sim_engine.proofs.Least.{least_here, none_at_all}
 use Rattle.sim_engine.proofs.loops.least_loop.Goals as goal

@@ -39,8 +39,8 @@ invariant_of-self c =
     let e = c.self.invariant in
     let i = inputs_of s.netlist s.values.items c.args.inputs.now c.args.self.now c.self.view_is c.requires.inputs in
     let k = cycled s.netlist s.steps.items s.nexts.items s.values.items c.args.inputs.now c.put.new.values.items c.evaluate.new.values.items c.keep.new.kept.items c.put-2.new.values.items
-      c.len.result c.as_slice.result.now c.as_slice-4.result.now c.as_slice-5.result.now c.as_slice-6.result.now
-      c.put.ensures c.as_slice.ensures.value c.evaluate.ensures c.as_slice-4.ensures.value c.as_slice-5.ensures.value c.keep.ensures c.len.ensures c.as_slice-6.ensures.value c.put-2.ensures in
+    c.len-first.result c.as_slice.result.now c.as_slice-4.result.now c.as_slice-5.result.now c.as_slice-6.result.now
+    c.put.ensures c.as_slice.ensures.value c.evaluate.ensures c.as_slice-4.ensures.value c.as_slice-5.ensures.value c.keep.ensures c.len-first.ensures c.as_slice-6.ensures.value c.put-2.ensures in
     engine_after s.netlist s.steps.items s.shown.items s.nexts.items s.values.items s.kept.items c.args.inputs.now c.put.new.values.items c.evaluate.new.values.items c.keep.new.kept.items c.put-2.new.values.items e i k
 
 pub returns : goal.returns
@@ -49,8 +49,8 @@ returns c =
     let e = c.self.invariant in
     let i = inputs_of s.netlist s.values.items c.args.inputs.now c.args.self.now c.self.view_is c.requires.inputs in
     let k = cycled s.netlist s.steps.items s.nexts.items s.values.items c.args.inputs.now c.put.new.values.items c.evaluate.new.values.items c.keep.new.kept.items c.put-2.new.values.items
-      c.len.result c.as_slice.result.now c.as_slice-4.result.now c.as_slice-5.result.now c.as_slice-6.result.now
-      c.put.ensures c.as_slice.ensures.value c.evaluate.ensures c.as_slice-4.ensures.value c.as_slice-5.ensures.value c.keep.ensures c.len.ensures c.as_slice-6.ensures.value c.put-2.ensures in
+    c.len-first.result c.as_slice.result.now c.as_slice-4.result.now c.as_slice-5.result.now c.as_slice-6.result.now
+    c.put.ensures c.as_slice.ensures.value c.evaluate.ensures c.as_slice-4.ensures.value c.as_slice-5.ensures.value c.keep.ensures c.len-first.ensures c.as_slice-6.ensures.value c.put-2.ensures in
     step_of s.netlist s.values.items c.args.inputs.now c.gather.new.into c.args.self.now _ c.self.view_is
     (step_after s.netlist s.steps.items s.shown.items s.nexts.items s.values.items s.kept.items c.args.inputs.now c.put.new.values.items c.evaluate.new.values.items c.keep.new.kept.items c.put-2.new.values.items c.gather.new.into e i k
     (c.gather.ensures ∙ ap (λ (xs : List ℕ). map (slice_index xs) c.as_slice-3.result.now) c.as_slice-2.ensures.value ∙ ap (map (slice_index c.evaluate.new.values.items)) c.as_slice-3.ensures.value))
@@ -61,6 +61,6 @@ put-requires-2 c =
     let e = c.self.invariant in
     let i = inputs_of s.netlist s.values.items c.args.inputs.now c.args.self.now c.self.view_is c.requires.inputs in
     let f = c.evaluate.ensures ∙ ap (λ (xs : List Step). evaluated xs c.put.new.values.items) c.as_slice.ensures.value in
-    room_for s.netlist s.nexts.items c.keep.new.kept.items c.evaluate.new.values.items c.as_slice-4.result.now c.as_slice-5.result.now c.as_slice-6.result.now c.len.result
-    c.len.ensures c.as_slice-6.ensures.value c.keep.ensures c.as_slice-5.ensures.value e.moved
+    room_for s.netlist s.nexts.items c.keep.new.kept.items c.evaluate.new.values.items c.as_slice-4.result.now c.as_slice-5.result.now c.as_slice-6.result.now c.len-first.result
+    c.len-first.ensures c.as_slice-6.ensures.value c.keep.ensures c.as_slice-5.ensures.value e.moved
     (long_after s.netlist s.steps.items s.values.items c.args.inputs.now c.put.new.values.items c.evaluate.new.values.items i e.long (plain c.args.inputs.now s.values.items c.put.new.values.items c.put.ensures) f)
