@@ -19,7 +19,7 @@ CYCLES = 10_000
 
 def build():
     """Proves and builds the program; the toolchain does nothing where it is built already."""
-    subprocess.run(["rt", "run", "--", "engine", "100", "20"], cwd=TOP / "crates/soc_bench", stdout=subprocess.DEVNULL, check=True)
+    subprocess.run(["rt", "run", "--", "engine", "100", "20"], cwd=TOP / "crates/soc_bench", stdout=subprocess.DEVNULL, stderr=subprocess.DEVNULL, check=True)
 
 
 def seconds(cells, cycles, runs):
