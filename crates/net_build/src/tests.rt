@@ -3,7 +3,7 @@ ghost use Rattle.net_cells.specs.Rules.{IsWidth};
 ghost use Rattle.net_build.specs.Built.{IsWire, IsBit};
 ghost use Rattle.net_build.specs.Values.{Adds};
 
-use crate::{Builder, Wire};
+use crate::{Builder, Wire, Wires};
 use dip_lists::Memory;
 use dip_sets::Name;
 use net_cells::{Cell, CellOp, Netlist, well_formed};
@@ -225,16 +225,21 @@ fn operators_have_their_values(rt: HostRuntime) -> Result<(), Fail> {
     Ok(())
 }
 
-/// The folds over two wires of one bit.
+/// The number of a wire of some.
+fn number_at(wires: &Wires, place: usize) -> u64 {
+    wires.get(place).map_or(0, |wire| wire.number)
+}
+
+/// The folds over two wires of one bit: the wires of `any` and `first`, by their numbers.
 #[tactic(auto, using(crate::proofs::Steps::steps, crate::proofs::Folded::pairs))]
-fn add_folds(builder: &mut Builder, x: Wire, y: Wire) -> Result<(), Memory>
+fn add_folds(builder: &mut Builder, x: Wire, y: Wire) -> Result<[u64; 3], Memory>
     requires { IsBit builder.old x × IsBit builder.old y }
     ensures adds { IfOk result (λ _. Adds builder.old builder.new) }
 {
-    builder.any(&[x, y])?;
-    builder.first(&[y, x])?;
+    let any = builder.any(&[x, y])?;
+    let first = builder.first(&[y, x])?;
     builder.choose(&[x, y], &[y, x])?;
-    Ok(())
+    Ok([any.number, number_at(&first, 0), number_at(&first, 1)])
 }
 
 /// Two wires joined, and taken apart.
@@ -250,34 +255,36 @@ fn add_parts(builder: &mut Builder, high: Wire, low: Wire) -> Result<(), Memory>
     Ok(())
 }
 
-/// A netlist of folds and parts over two wires of one bit and one of 63.
-fn parts_and_folds(alloc: Global) -> Result<Netlist, Memory> {
+/// A netlist of folds and parts over two wires of one bit and one of 63, and the nets of `any` and `first`.
+fn parts_and_folds(alloc: Global) -> Result<(Netlist, [u64; 3]), Memory> {
     let name = Name::new(alloc, "m_t")?.ok_or(Memory)?;
     let mut builder = Builder::new(alloc, name)?;
     let x = builder.input(Name::new(alloc, "p_x")?.ok_or(Memory)?, 1)?;
     let y = builder.input(Name::new(alloc, "p_y")?.ok_or(Memory)?, 1)?;
     let z = builder.input(Name::new(alloc, "p_z")?.ok_or(Memory)?, 63)?;
     add_parts(&mut builder, x, z)?;
-    add_folds(&mut builder, x, y)?;
-    builder.finish()
+    let folds = add_folds(&mut builder, x, y)?;
+    Ok((builder.finish()?, folds))
 }
 
 #[test]
 fn parts_and_folds_have_their_values(rt: HostRuntime) -> Result<(), Fail> {
-    let netlist = parts_and_folds(rt.alloc())?;
+    let (netlist, [any, first_y, first_x]) = parts_and_folds(rt.alloc())?;
     assert!(rt; well_formed(&netlist));
     let low = (1u64 << 62) + 5;
-    for (x, y, joined, chosen) in [
-        (0, 0, low, 0),
-        (0, 1, low, 0),
-        (1, 0, (1u64 << 63) + low, 0),
-        (1, 1, (1u64 << 63) + low, 1),
+    for (x, y, joined, chosen, folds) in [
+        (0, 0, low, 0, (0, 0, 0)),
+        (0, 1, low, 0, (1, 1, 0)),
+        (1, 0, (1u64 << 63) + low, 0, (1, 0, 1)),
+        (1, 1, (1u64 << 63) + low, 1, (1, 1, 0)),
     ] {
         let values = evaluate(rt.alloc(), &netlist, &[0, x, y, low])?;
         assert_eq!(rt; at(&values, 4), joined);
         assert_eq!(rt; at(&values, 5), x);
         assert_eq!(rt; at(&values, 6), low);
         assert!(rt; values.last() == Some(&chosen), "at {x} {y}");
+        let found = (at(&values, any), at(&values, first_y), at(&values, first_x));
+        assert!(rt; found == folds, "at {x} {y}");
     }
     Ok(())
 }

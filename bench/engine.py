@@ -1,0 +1,48 @@
+#!/usr/bin/env python3
+"""Times the cycle simulator's engine on made netlists of all operators.
+
+    bench/engine.py [RUNS]
+
+Each netlist runs 10,000 cycles. Times are processor seconds of the program, the least of some runs, less what
+opening takes: the same run with no cycles.
+"""
+
+import resource
+import subprocess
+import sys
+from pathlib import Path
+
+TOP = Path(__file__).resolve().parent.parent
+PROGRAM = TOP / "crates/soc_bench/out/soc_bench"
+CYCLES = 10_000
+
+
+def build():
+    """Proves and builds the program; the toolchain does nothing where it is built already."""
+    subprocess.run(["rt", "run", "--", "engine", "100", "20"], cwd=TOP / "crates/soc_bench", stdout=subprocess.DEVNULL, stderr=subprocess.DEVNULL, check=True)
+
+
+def seconds(cells, cycles, runs):
+    least = None
+    for _ in range(runs):
+        before = resource.getrusage(resource.RUSAGE_CHILDREN)
+        run = subprocess.run([PROGRAM, "engine", str(cells), str(cycles)], stdout=subprocess.PIPE, check=True)
+        after = resource.getrusage(resource.RUSAGE_CHILDREN)
+        assert run.stdout.startswith(f"cells {cells} cycles {cycles} state ".encode()), run.stdout
+        took = after.ru_utime + after.ru_stime - before.ru_utime - before.ru_stime
+        least = took if least is None else min(least, took)
+    return least
+
+
+def main():
+    runs = int(sys.argv[1]) if len(sys.argv) > 1 else 5
+    build()
+    for cells in (5_000, 10_000):
+        opening = seconds(cells, 0, runs)
+        took = seconds(cells, CYCLES, runs) - opening
+        rate = cells * CYCLES / took / 1e6
+        print(f"{cells:>6} cells {CYCLES} cycles {took:7.3f} s {rate:6.0f} million cells a second, opened in {opening:.3f} s")
+
+
+if __name__ == "__main__":
+    main()

@@ -1,0 +1,10 @@
+pub mod Agreement
+pub mod StepValues
+pub mod Walking
+pub mod Widths
+pub mod Acyclic
+pub mod Reaching
+pub mod Least
+pub mod Stepping
+pub mod Opening
+pub mod Runs

@@ -1,0 +1,6 @@
+pub mod Steps
+pub mod Orders
+pub mod Walks
+pub mod Running
+pub mod Reached
+pub mod Engines

@@ -1,0 +1,16 @@
+//! The cycle simulator's engine: the values of a netlist's nets, cycle by cycle.
+#![tactic(auto)]
+
+mod arrange;
+mod engine;
+mod fault;
+mod loops;
+mod order;
+mod steps;
+mod values;
+
+pub use engine::Engine;
+pub use fault::EngineFault;
+
+#[cfg(test)]
+mod tests;
