@@ -8,7 +8,7 @@ mod ports;
 mod solution;
 mod steps;
 
-pub use laws::negotiation_law;
 pub use asking::is_nexus_node;
+pub use laws::negotiation_law;
 pub use solution::{NegFault, Solution, negotiate};
 pub use steps::{End, Step, Steps};

@@ -1,8 +1,10 @@
 use crate::top::soc;
 use dip_io::{MemFiles, MemOut};
+use dip_lists::Memory;
 use soc_report::Status;
 use std::alloc::Global;
 use std::test::Fail;
+use tl_rules::boxed_standard_rules;
 
 const SMALLEST: &str = "version = 1
 name = \"one\"
@@ -35,12 +37,23 @@ fn words(alloc: Global, texts: &[&str]) -> Result<Vec<String>, Fail> {
     Ok(words)
 }
 
+// The answer by the standard rules.
+fn answer(
+    alloc: Global,
+    words: &[String],
+    files: &mut MemFiles,
+    out: &mut MemOut,
+) -> Result<Status, Memory> {
+    let rules = boxed_standard_rules!(alloc);
+    Ok(soc(alloc, words, files, out, &rules))
+}
+
 // The answer to `map a.toml` on a file of these bytes.
 fn map(alloc: Global, bytes: &[u8], out: &mut MemOut) -> Result<Status, Fail> {
     let mut files = MemFiles::new(alloc);
     files.set("a.toml", bytes)?;
     let words = words(alloc, &["map", "a.toml"])?;
-    Ok(soc(alloc, words.as_slice(), &mut files, out))
+    Ok(answer(alloc, words.as_slice(), &mut files, out)?)
 }
 
 fn design(alloc: Global, ids: &str, addresses: &str, binds: &str) -> Result<String, Fail> {
@@ -92,12 +105,91 @@ fn names_the_first_failing_check(rt: HostRuntime) -> Result<(), Fail> {
         (
             "1",
             ram,
-            "[[node]]\nname = \"b\"\nkind = \"buffer\"\n",
+            "[[node]]\nname = \"b\"\nkind = \"B\"\n",
             "refused 2 3\n",
         ),
         ("1", ram, bind, SMALLEST_MAP),
     ] {
         let text = design(alloc, ids, addresses, binds)?;
+        let mut out = MemOut::new(alloc, 300);
+        map(alloc, text.as_str().as_bytes(), &mut out)?;
+        assert!(rt; out.bytes() == printed.as_bytes());
+    }
+    Ok(())
+}
+
+// A source with so many ports and a memory, with other nodes between them.
+fn chip(alloc: Global, ports: u32, between: &str, binds: &str) -> Result<String, Fail> {
+    Ok(format!(in alloc;
+        "version = 1
+name = \"chip\"
+node = [
+{{name = \"core\", kind = \"source\", ids = 1, ports = {ports}, emits = {{get = [1, 8]}}}},
+{between},
+{{name = \"ram\", kind = \"sink\", beat = 8, addresses = [[[0x1000, 0xfff]]], supports = {{get = [1, 8]}}}}]
+bind = [{binds}]
+"
+    )?)
+}
+
+#[test]
+fn agrees_across_nodes(rt: HostRuntime) -> Result<(), Fail> {
+    let alloc = rt.alloc();
+    let line = "{to = \"x\", from = \"core\"}, {to = \"ram\", from = \"x\"}";
+    for (ports, between, binds, printed) in [
+        (
+            1,
+            "{name = \"x\", kind = \"buffer\"}",
+            line,
+            "design chip edges 2\nport core.0 ids 1 beat 8\n  1000 fff ram.0 get=1-8\n",
+        ),
+        (
+            1,
+            "{name = \"x\", kind = \"width\", args = [4]}",
+            line,
+            "design chip edges 2\nport core.0 ids 1 beat 4\n  1000 fff ram.0 get=1-8\n",
+        ),
+        (
+            1,
+            "{name = \"x\", kind = \"width\", args = [3]}",
+            line,
+            "refused 11 1\n",
+        ),
+        (
+            1,
+            "{name = \"x\", kind = \"widget\"}",
+            line,
+            "refused 5 1\n",
+        ),
+        (
+            1,
+            "{name = \"x\", kind = \"buffer\"}, {name = \"y\", kind = \"buffer\"}",
+            "{to = \"x\", from = \"y\"}, {to = \"y\", from = \"x\"}",
+            "refused 7 1\n",
+        ),
+        (
+            1,
+            "{name = \"x\", kind = \"buffer\"}, {name = \"y\", kind = \"buffer\"}",
+            "{to = \"x\", from = \"core\", kind = \":*=\"}, {to = \"y\", from = \"x\", kind = \":*=\"},
+            {to = \"ram\", from = \"y\", kind = \":=*\"}",
+            "refused 8 0\n",
+        ),
+        (
+            2,
+            "{name = \"x\", kind = \"xbar\"}",
+            "{to = \"x\", from = \"core\", kind = \":=*\"}, {to = \"ram\", from = \"x\"}",
+            "design chip edges 3\nport core.0 ids 1 beat 8\n  1000 fff ram.0 get=1-8\n\
+             port core.1 ids 1 beat 8\n  1000 fff ram.0 get=1-8\n",
+        ),
+        (
+            1,
+            "{name = \"x\", kind = \"xbar\"}",
+            "{to = \"x\", from = \"core\"}, {to = \"x\", from = \"core\"},
+            {to = \"x\", from = \"core\", kind = \":=*\"}, {to = \"ram\", from = \"x\"}",
+            "refused 9 0\n",
+        ),
+    ] {
+        let text = chip(alloc, ports, between, binds)?;
         let mut out = MemOut::new(alloc, 300);
         map(alloc, text.as_str().as_bytes(), &mut out)?;
         assert!(rt; out.bytes() == printed.as_bytes());
@@ -183,7 +275,7 @@ fn is_usage(alloc: Global, texts: &[&str]) -> Result<bool, Fail> {
     let words = words(alloc, texts)?;
     let mut files = MemFiles::new(alloc);
     let mut out = MemOut::new(alloc, 7);
-    let status = soc(alloc, words.as_slice(), &mut files, &mut out);
+    let status = answer(alloc, words.as_slice(), &mut files, &mut out)?;
     Ok(status == Status::Usage && out.bytes() == b"usage: soc map\n".as_slice())
 }
 
@@ -208,7 +300,7 @@ fn says_that_a_load_failed(rt: HostRuntime) -> Result<(), Fail> {
     files.fail_at(2)?;
     for _ in 0..2 {
         let mut out = MemOut::new(alloc, 300);
-        let status = soc(alloc, words.as_slice(), &mut files, &mut out);
+        let status = answer(alloc, words.as_slice(), &mut files, &mut out)?;
         assert!(rt; status == Status::ReadFailed);
         assert!(rt; out.bytes() == b"read failed\n".as_slice());
         files.set("a.toml", SMALLEST.as_bytes())?;
