@@ -4,3 +4,4 @@ pub mod Zips
 pub mod Walks
 pub mod Shifting
 pub mod StandardKinds
+pub mod Going

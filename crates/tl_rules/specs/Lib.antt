@@ -6,3 +6,4 @@ pub mod Crossbars
 pub mod Fits
 pub mod ShiftedIds
 pub mod Standard
+pub mod Pieces

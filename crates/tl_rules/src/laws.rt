@@ -1,7 +1,15 @@
+ghost use Rattle.tl_rules.specs.Pieces.{PiecesLaw};
 ghost use Rattle.tl_rules.specs.ShiftedIds.{ShiftedIdsLaw};
 
 /// Behind a crossbar the ids of each input are in the input's own range, and no id of one input is an id of
 /// another: an id tells which input it came from.
 pub fn shifted_ids_law()
     ensures { ShiftedIdsLaw }
+{}
+
+/// What a fragmenter's sizes are good for. The test on its edges says that each size that it takes goes on, as
+/// it is or as pieces; its rule shows below the sizes that arrive there, and above sizes that go on, up to the
+/// largest transfer where a piece does.
+pub fn pieces_law()
+    ensures { PiecesLaw }
 {}
