@@ -9,8 +9,9 @@ pub fn shifted_ids_law()
 
 /// What a fragmenter's sizes are good for.
 ///
-/// The test on its edges says that each size that it takes goes on, as it is or as pieces. Its rule shows below
-/// the sizes that arrive there, and above sizes that go on, up to the largest transfer where a piece does.
+/// The test on its edges says that each size that it takes goes on, as it is or as pieces. Its rule
+/// shows below the sizes that arrive there, and above sizes that go on, up to the largest transfer
+/// where a piece does.
 pub fn pieces_law()
     ensures { PiecesLaw }
 {}
