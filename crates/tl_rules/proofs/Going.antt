@@ -63,12 +63,12 @@ or_cases : (a b : Bool) → IsTrue (a || b) → IsTrue a ⊎ IsTrue b
 or_cases true b h = inl refl
 or_cases false b h = inr h
 
-or_true : (a b : Bool) → IsTrue a ⊎ IsTrue b → IsTrue (a || b)
+pub or_true : (a b : Bool) → IsTrue a ⊎ IsTrue b → IsTrue (a || b)
 or_true true b h = refl
 or_true false b (inl h) = absurd (cc)
 or_true false b (inr h) = h
 
-and_true : (a b : Bool) → IsTrue a → IsTrue b → IsTrue (a && b)
+pub and_true : (a b : Bool) → IsTrue a → IsTrue b → IsTrue (a && b)
 and_true true b h k = k
 and_true false b h k = h
 

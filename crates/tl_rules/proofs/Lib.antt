@@ -5,3 +5,4 @@ pub mod Walks
 pub mod Shifting
 pub mod StandardKinds
 pub mod Going
+pub mod Fitting

@@ -7,3 +7,4 @@ pub mod Fits
 pub mod ShiftedIds
 pub mod Standard
 pub mod Pieces
+pub mod RulesFit
