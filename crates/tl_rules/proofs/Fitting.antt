@@ -1,10 +1,9 @@
 -- The answers of the standard rules fit their templates.
-use Rattle.std.proofs.Common.{ℕ, zero, suc, ◌≡◌, ◌≤◌, min, max, List, [], ◌∷◌, length, map, Bool, true, false, ◌&&◌, ◌||◌, ◌==◌, ◌⊎◌, inl, inr, cond, nat_le, IsTrue, Option, Some, None, Result, Ok, Err, refl, ap, sym, subst, ◌∙◌, arith, le-leb}
+use Rattle.std.proofs.Common.{ℕ, ◌≡◌, ◌≤◌, min, max, List, [], ◌∷◌, length, map, Bool, true, false, ◌&&◌, ◌==◌, ◌⊎◌, inl, inr, cond, nat_le, IsTrue, Option, Some, None, Result, Ok, Err, refl, sym, arith, le-leb}
 use Rattle.std.specs.List.{list_all, flat_map}
-use Rattle.std.proofs.lemmas.Bool.{leb-true, leb-false}
-use Rattle.std.proofs.lemmas.Bool.Decides.{Decides-eqb, nat_tests}
-use Rattle.dip_sets.specs.SizeRanges.{SizeRange, size_range, HasSize, has_size, is_within, meet, no_sizes}
-use Rattle.dip_sets.proofs.Powers.{power_pos}
+use Rattle.std.proofs.lemmas.Bool.{leb-true}
+use Rattle.std.proofs.lemmas.Bool.Decides.{Decides-eqb}
+use Rattle.dip_sets.specs.SizeRanges.{SizeRange, size_range, has_size, is_within, meet, no_sizes}
 use Rattle.dip_sets.proofs.Ranges.{has_size_is}
 use Rattle.tl_params.specs.declared.ops.Ops.{Ops}
 use Rattle.tl_params.specs.declared.ops.Template.TheVariants.{Buffer, Width, Fragmenter, Shrinker}
@@ -17,7 +16,7 @@ use Rattle.tl_rules.specs.Adapters.{is_width, width_argument, buffer_down, buffe
 use Rattle.tl_rules.specs.Fragments.{widened, widened_slave, cut_master, fragment_arguments, fragmenter_down, fragmenter_up}
 use Rattle.tl_rules.specs.Shrinks.{shrink_argument, shrunk_port, shrinker_down, shrinker_up}
 use Rattle.tl_rules.specs.Crossbars.{id_count, is_id_count, has_ids, is_usable, are_usable, input_ranges, joined_masters, joined_port, xbar_down, xbar_up}
-use Rattle.tl_rules.specs.Fits.{all_zip, is_same_slave, is_same_set, fits_pieces, sizes_fit, ops_fit, slave_fits, slaves_fit, has_same_ids, same_ids, has_only_ids, EdgePorts, edge_ports, adapter_fits, inputs_fit, outputs_fit}
+use Rattle.tl_rules.specs.Fits.{is_same_slave, fits_pieces, sizes_fit, ops_fit, slaves_fit, has_same_ids, same_ids, has_only_ids, edge_ports, adapter_fits, inputs_fit, outputs_fit}
 use Rattle.tl_rules.specs.RulesFit.{RulesFitLaw}
 use Rattle.tl_rules.proofs.Crossing.{and_left, and_right, usable_parts}
 use Rattle.tl_rules.proofs.Going.{and_true, or_true}

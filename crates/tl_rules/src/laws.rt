@@ -17,8 +17,8 @@ pub fn pieces_law()
     ensures { PiecesLaw }
 {}
 
-/// The ports that a standard rule answers fit what is built for its nodes, where a width adapter's bus below has
-/// a width that buses may have, and a fragmenter's pieces have at least the bytes of one beat.
+/// The ports that a standard rule answers fit what is built for its nodes, where a width adapter's bus below
+/// has a width that buses may have, and a fragmenter's pieces have at least the bytes of one beat.
 pub fn rules_fit_law()
     ensures { RulesFitLaw }
 {}
