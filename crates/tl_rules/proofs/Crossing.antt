@@ -1,9 +1,8 @@
 -- Inputs that a crossbar can use, and the ranges of their ids.
-use Rattle.std.proofs.Common.{ℕ, zero, suc, ◌≡◌, ◌+◌, ◌*◌, ◌<◌, ◌≤◌, max, List, [], ◌∷◌, length, get_or, map, Bool, true, false, ◌&&◌, cond, nat_le, nat_lt, IsTrue, Result, Ok, Err, IfOk, All, refl, ap, ◌∙◌, arith}
+use Rattle.std.proofs.Common.{ℕ, zero, suc, ◌≡◌, ◌+◌, ◌*◌, ◌<◌, ◌≤◌, List, [], ◌∷◌, length, get_or, map, Bool, true, false, ◌&&◌, cond, nat_le, IsTrue, Result, Ok, Err, IfOk, All, refl, ap, ◌∙◌, arith}
 use Rattle.std.specs.List.{list_all}
 use Rattle.std.proofs.lemmas.Bool.{leb-true, ltb-true}
-use Rattle.dip_sets.specs.declared.ids.IdRange.{IdRange}
-use Rattle.dip_sets.specs.Assignments.{rounded, goes_first, sum_before, range_at, ranges_from, assigned}
+use Rattle.dip_sets.specs.Assignments.{rounded, goes_first, sum_before, ranges_from}
 use Rattle.dip_sets.proofs.Assigned.{rounded_is, rounded_small}
 use Rattle.tl_params.specs.Owners.{largest_end}
 use Rattle.tl_params.specs.declared.ports.Master.{Master}

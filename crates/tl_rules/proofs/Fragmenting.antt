@@ -1,9 +1,7 @@
 -- Cutting and widening sizes by what two ranges have in common and by their cover.
-use Rattle.std.proofs.Common.{ℕ, ◌≡◌, ◌≢◌, ◌<◌, ◌≤◌, ◌⊎◌, inl, inr, min, max, Bool, true, false, cond, nat_le, nat_lt, ◌==◌, IsTrue, refl, arith, le-leb}
-use Rattle.std.specs.Int.{IsPowerOfTwo}
+use Rattle.std.proofs.Common.{ℕ, ◌≡◌, ◌≢◌, ◌<◌, ◌≤◌, inl, inr, min, max, true, false, nat_le, nat_lt, ◌==◌, IsTrue, refl, arith, le-leb}
 use Rattle.std.proofs.lemmas.Bool.Decides.{nat_tests}
-use Rattle.dip_sets.specs.SizeRanges.{SizeRange, size_range, is_size_pair, is_size_range, IsSizePair, has_size, meet, cover}
-use Rattle.dip_sets.proofs.Powers.{power_pos}
+use Rattle.dip_sets.specs.SizeRanges.{SizeRange, size_range, is_size_range, IsSizePair, has_size, meet, cover}
 use Rattle.dip_sets.proofs.Ranges.{size_pair_is, range_cases, has_size_is}
 use Rattle.tl_rules.specs.Fragments.{AreFragments, cut, widened}
 

@@ -4,3 +4,5 @@ pub mod Zips
 pub mod Walks
 pub mod Shifting
 pub mod StandardKinds
+pub mod Going
+pub mod Fitting

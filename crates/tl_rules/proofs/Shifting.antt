@@ -1,5 +1,5 @@
 -- The ids of the inputs behind a crossbar.
-use Rattle.std.proofs.Common.{ℕ, zero, suc, ◌≡◌, ◌+◌, ◌<◌, ◌≤◌, List, [], ◌∷◌, length, get_or, map, All, AllPairs, sym, arith}
+use Rattle.std.proofs.Common.{ℕ, zero, suc, ◌≡◌, ◌<◌, ◌≤◌, List, [], ◌∷◌, length, get_or, map, AllPairs, arith}
 use Rattle.std.specs.List.{AllZip}
 use Rattle.dip_sets.specs.declared.ids.IdRange.{IdRange}
 use Rattle.dip_sets.specs.Ids.{HasId, DisjointIds}

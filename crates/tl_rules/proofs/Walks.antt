@@ -1,5 +1,5 @@
 -- Walks along the outputs or the inputs of a crossbar, whose slaves or masters stand one after another in a list.
-use Rattle.std.proofs.Common.{ℕ, ◌≡◌, ◌+◌, ◌<◌, List, [], ◌∷◌, ◌++◌, length, get_or, take, drop, map, Option, None, Some, slice_get, Bool, true, false, ◌&&◌, refl, ap, sym, subst, ◌∙◌, arith}
+use Rattle.std.proofs.Common.{ℕ, ◌≡◌, ◌+◌, ◌<◌, List, [], ◌∷◌, length, get_or, take, drop, map, None, Some, slice_get, true, false, ◌&&◌, refl, sym, subst, arith}
 use Rattle.std.specs.List.{flat_map, list_all}
 use Rattle.std.proofs.lemmas.List.{drop_more}
 use Rattle.dip_sets.specs.Assignments.{rounded, sum_before, ranges_from}

@@ -61,7 +61,7 @@ same_sets (s ∷ ss) (t ∷ ts) h =
     let rest = same_sets ss ts (and_right (is_same_set s t) (all_zip is_same_set ss ts) h) in
     ap (λ x. x ∷ ss) first ∙ ap (λ xs. t ∷ xs) rest
 
-own_sets : (ss : List Pattern) → all_zip is_same_set ss ss ≡ true
+pub own_sets : (ss : List Pattern) → all_zip is_same_set ss ss ≡ true
 own_sets [] = refl
 own_sets (s ∷ ss) = rw (own_set s) (own_sets ss)
 

@@ -6,3 +6,5 @@ pub mod Crossbars
 pub mod Fits
 pub mod ShiftedIds
 pub mod Standard
+pub mod Pieces
+pub mod RulesFit

@@ -1,5 +1,5 @@
 -- What shrinkers state. A shrinker shows all masters as one with few ids.
-use Rattle.std.specs.Prelude.{ℕ, List, [], ◌∷◌, map, fold, ◌&&◌, nat_le, cond, Option, Some, None, Result, Ok, Err}
+use Rattle.std.specs.Prelude.{ℕ, List, [], ◌∷◌, ◌&&◌, nat_le, cond, Option, Some, None, Result, Ok, Err}
 use Rattle.dip_sets.specs.SizeRanges.{cover}
 use Rattle.dip_rule.specs.Stated.{StatedAnswer}
 use Rattle.tl_params.specs.declared.ops.Ops.{Ops}

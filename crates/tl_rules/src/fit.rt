@@ -279,11 +279,11 @@ fn adapters_fit(
 /// Whether what is built for a node fits the ports of its edges, which are given by their numbers: edge e has
 /// the ports `down[e]` and `up[e]`. False where a number has no ports.
 ///
-/// It fits where both sides show the same slaves in the same order, the in side promises no sizes that the out
-/// side lacks, the out side has the ids that the template makes, the widths of the buses are those that it
-/// takes, and so are its arguments. An adapter has as many in edges as out edges, and stands between each two
-/// of them; a crossbar shows the slaves of all out edges at each in edge, and the ids of all in edges at each
-/// out edge.
+/// It fits where both sides show the same slaves in the same order, the in side promises no sizes that
+/// the out side lacks, the out side has the ids that the template makes, the widths of the buses are
+/// those that it takes, and so are its arguments. An adapter has as many in edges as out edges, and
+/// stands between each two of them; a crossbar shows the slaves of all out edges at each in edge, and
+/// the ids of all in edges at each out edge.
 pub fn fits(
     template: Template,
     args: &Args,

@@ -60,9 +60,9 @@ fn shrunk_port(alloc: Global, ids: u32, masters: &[Master]) -> Result<DownPort, 
     }
 }
 
-/// What a shrinker shows below: one master with so many ids as the argument says, which emits what the masters
-/// above it do. Arguments other than one from 1 to 64 are refused with 1, and with 2 another number of ports
-/// than one and a port without masters.
+/// What a shrinker shows below: one master with so many ids as the argument says, which emits what the
+/// masters above it do. Arguments other than one from 1 to 64 are refused with 1, and with 2 another
+/// number of ports than one and a port without masters.
 pub fn shrinker_down(alloc: Global, args: &Args, ins: &[DownPort]) -> Result<DownPort, RuleFault>
     ensures { Answers (spec.shrinker_down args.now ins.now) result }
 {

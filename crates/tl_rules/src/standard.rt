@@ -28,8 +28,8 @@ fn add_rule(
     rule: Box<dyn Rule>,
 ) -> Result<(), Memory>
     requires { IsTrue (is_name kind.now) }
-    ensures { OnOk result (map (λ e. stated_rule e.kind e.template (says_down e.rule) (says_up e.rule)) entries.new
-        ≡ map (λ e. stated_rule e.kind e.template (says_down e.rule) (says_up e.rule)) entries.old
+    ensures { OnOk result (map (λ e. stated_rule e.kind e.template (says_down e.rule) (says_up e.rule))
+        entries.new ≡ map (λ e. stated_rule e.kind e.template (says_down e.rule) (says_up e.rule)) entries.old
         ++ stated_rule kind.now template (says_down rule) (says_up rule) ∷ []) }
 {
     let kind = kind_name(alloc, kind)?;

@@ -1,4 +1,4 @@
-use Rattle.std.proofs.Common.{◌≡◌, ◌≤◌, ◌-◌, drop, map, take, length}
+use Rattle.std.proofs.Common.{◌≡◌, ◌-◌, drop, map, take, length}
 use Rattle.tl_rules.specs.Crossbars.{shifted_master}
 use Rattle.tl_rules.specs.Fits.{same_ids}
 use Rattle.tl_rules.proofs.fit_xbar.begin_shifted.Given as goal

@@ -1,4 +1,4 @@
-use Rattle.std.proofs.Common.{◌≡◌, ◌∙◌, sym, ap, map}
+use Rattle.std.proofs.Common.{◌∙◌, sym, ap, map}
 use Rattle.tl_rules.specs.Crossbars.{input_ranges, joined_masters}
 use Rattle.tl_rules.specs.Fits.{down_at}
 use Rattle.tl_rules.proofs.Walks.{all_outputs}

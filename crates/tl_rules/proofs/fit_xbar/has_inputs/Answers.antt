@@ -1,7 +1,6 @@
-use Rattle.std.proofs.Common.{◌≡◌, ◌∙◌, sym, ap, get_or}
+use Rattle.std.proofs.Common.{◌∙◌, sym, ap}
 use Rattle.dip_sets.specs.Assignments.{rounded, sum_before}
 use Rattle.tl_rules.specs.Crossbars.{id_count}
-use Rattle.tl_rules.specs.Fits.{down_at}
 use Rattle.tl_rules.proofs.Walks.{rounded_of, input_fails, input_passes}
 use Rattle.tl_rules.proofs.fit_xbar.has_inputs.Goals as goal
 

@@ -1,5 +1,4 @@
-use Rattle.std.proofs.Common.{◌≡◌, ◌∙◌, sym, ap, get_or}
-use Rattle.tl_rules.specs.Fits.{up_at}
+use Rattle.std.proofs.Common.{◌∙◌, sym, ap}
 use Rattle.tl_rules.proofs.Walks.{output_fails, output_passes}
 use Rattle.tl_rules.proofs.fit_xbar.shows_outputs.Goals as goal
 

@@ -1,9 +1,8 @@
 use denote.Param.Object.{read_made}
-use Rattle.std.proofs.Common.{◌≡◌, ◌∙◌, subst}
+use Rattle.std.proofs.Common.{◌∙◌, subst}
 use Rattle.tl_params.specs.declared.ports.DownPort.{DownPort}
 use Rattle.tl_params.specs.declared.ports.UpPort.{UpPort}
 use Rattle.dip_rule.specs.Stated.{StatedAnswer, Answers, down_by, rule_of}
-use Rattle.tl_rules.specs.Standard.{standard}
 use Rattle.tl_rules.proofs.StandardKinds.{same_sides, same_kinds}
 use Rattle.tl_rules.proofs.standard.ask_standard_down.OwnLists as own
 use Rattle.tl_rules.proofs.standard.ask_standard_down.Goals as goal
