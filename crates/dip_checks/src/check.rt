@@ -26,15 +26,15 @@ fn ports_are_sound(
 ) -> Result<(), Fault>
     requires edges { length edges.now < 2 ^ 32 }
     requires nodes { length nodes.now < 2 ^ 32 }
-    ensures passes { OnOk result (first_failing (spec.edge_checks solution.now.down solution.now.up
-        ++ spec.fit_checks (map (λ e. stated_rule e.kind e.template
-        ((⟦<dyn Rule as Rule>⟧ e.rule.vtable).says_down e.rule.value)
-        ((⟦<dyn Rule as Rule>⟧ e.rule.vtable).says_up e.rule.value)) rules.now.entries) nodes.now edges.now solution.now.down solution.now.up) ≡ None) }
+    ensures passes { OnOk result (first_failing (spec.edge_checks solution.now.down solution.now.up ++
+        spec.fit_checks (map (λ e. stated_rule e.kind e.template ((⟦<dyn Rule as Rule>⟧
+        e.rule.vtable).says_down e.rule.value) ((⟦<dyn Rule as Rule>⟧ e.rule.vtable).says_up
+        e.rule.value)) rules.now.entries) nodes.now edges.now solution.now.down solution.now.up) ≡ None) }
     ensures apart { OnOk result (All HasDisjointSets solution.now.up) }
-    ensures err { IfErr result (IsFaultOf (first_failing (spec.edge_checks solution.now.down solution.now.up
-        ++ spec.fit_checks (map (λ e. stated_rule e.kind e.template
-        ((⟦<dyn Rule as Rule>⟧ e.rule.vtable).says_down e.rule.value)
-        ((⟦<dyn Rule as Rule>⟧ e.rule.vtable).says_up e.rule.value)) rules.now.entries) nodes.now edges.now solution.now.down solution.now.up))) }
+    ensures err { IfErr result (IsFaultOf (first_failing (spec.edge_checks solution.now.down
+        solution.now.up ++ spec.fit_checks (map (λ e. stated_rule e.kind e.template ((⟦<dyn Rule as Rule>⟧
+        e.rule.vtable).says_down e.rule.value) ((⟦<dyn Rule as Rule>⟧ e.rule.vtable).says_up
+        e.rule.value)) rules.now.entries) nodes.now edges.now solution.now.down solution.now.up))) }
 {
     let downs = solution.down.as_slice();
     let ups = solution.up.as_slice();
@@ -46,22 +46,22 @@ fn ports_are_sound(
 fn solved(alloc: Global, rules: &Rules, design: &Design, edges: &[Edge]) -> Result<Solution, Fault>
     requires edges { length edges.now < 2 ^ 32 }
     requires nodes { length design.now.nodes < 2 ^ 32 }
-    ensures value { IfOk result (λ solution. solution ≡ spec.solution_of (map (λ e. stated_rule e.kind e.template
-        ((⟦<dyn Rule as Rule>⟧ e.rule.vtable).says_down e.rule.value)
-        ((⟦<dyn Rule as Rule>⟧ e.rule.vtable).says_up e.rule.value)) rules.now.entries) design.now edges.now) }
+    ensures value { IfOk result (λ solution. solution ≡ spec.solution_of (map (λ e. stated_rule e.kind
+        e.template ((⟦<dyn Rule as Rule>⟧ e.rule.vtable).says_down e.rule.value) ((⟦<dyn Rule as Rule>⟧
+        e.rule.vtable).says_up e.rule.value)) rules.now.entries) design.now edges.now) }
     ensures down { IfOk result (λ solution. downs (map (λ e. stated_rule e.kind e.template
-        ((⟦<dyn Rule as Rule>⟧ e.rule.vtable).says_down e.rule.value)
-        ((⟦<dyn Rule as Rule>⟧ e.rule.vtable).says_up e.rule.value)) rules.now.entries) design.now edges.now ≡ Ok solution.down) }
+        ((⟦<dyn Rule as Rule>⟧ e.rule.vtable).says_down e.rule.value) ((⟦<dyn Rule as Rule>⟧
+        e.rule.vtable).says_up e.rule.value)) rules.now.entries) design.now edges.now ≡ Ok solution.down) }
     ensures up { IfOk result (λ solution. ups (map (λ e. stated_rule e.kind e.template
-        ((⟦<dyn Rule as Rule>⟧ e.rule.vtable).says_down e.rule.value)
-        ((⟦<dyn Rule as Rule>⟧ e.rule.vtable).says_up e.rule.value)) rules.now.entries) design.now edges.now ≡ Ok solution.up) }
-    ensures passes { IfOk result (λ _. first_failing (spec.port_checks (map (λ e. stated_rule e.kind e.template
-        ((⟦<dyn Rule as Rule>⟧ e.rule.vtable).says_down e.rule.value)
-        ((⟦<dyn Rule as Rule>⟧ e.rule.vtable).says_up e.rule.value)) rules.now.entries) design.now edges.now) ≡ None) }
+        ((⟦<dyn Rule as Rule>⟧ e.rule.vtable).says_down e.rule.value) ((⟦<dyn Rule as Rule>⟧
+        e.rule.vtable).says_up e.rule.value)) rules.now.entries) design.now edges.now ≡ Ok solution.up) }
+    ensures passes { IfOk result (λ _. first_failing (spec.port_checks (map (λ e. stated_rule e.kind
+        e.template ((⟦<dyn Rule as Rule>⟧ e.rule.vtable).says_down e.rule.value) ((⟦<dyn Rule as Rule>⟧
+        e.rule.vtable).says_up e.rule.value)) rules.now.entries) design.now edges.now) ≡ None) }
     ensures apart { IfOk result (λ solution. All HasDisjointSets solution.up) }
-    ensures err { IfErr result (IsFaultOf (first_failing (spec.port_checks (map (λ e. stated_rule e.kind e.template
-        ((⟦<dyn Rule as Rule>⟧ e.rule.vtable).says_down e.rule.value)
-        ((⟦<dyn Rule as Rule>⟧ e.rule.vtable).says_up e.rule.value)) rules.now.entries) design.now edges.now))) }
+    ensures err { IfErr result (IsFaultOf (first_failing (spec.port_checks (map (λ e. stated_rule e.kind
+        e.template ((⟦<dyn Rule as Rule>⟧ e.rule.vtable).says_down e.rule.value) ((⟦<dyn Rule as Rule>⟧
+        e.rule.vtable).says_up e.rule.value)) rules.now.entries) design.now edges.now))) }
 {
     let solution = agreed(alloc, design, edges, rules)?;
     ports_are_sound(alloc, rules, design.nodes.as_slice(), edges, &solution)?;
@@ -70,25 +70,27 @@ fn solved(alloc: Global, rules: &Rules, design: &Design, edges: &[Edge]) -> Resu
 
 /// The edges and the only solution of a design, by these rules.
 ///
-/// `Fault::Check` names the first of the checks 5 to 18 that fails, with the number of the bind, the node or the edge
+/// `Fault::Check` names the first of the checks 5 to 18 that fails, with the number of the bind, the node
+/// or the edge
 /// at which it does, or how many edges there are, or the weight. After `Fault::Memory` nothing is known.
 #[tactic(auto, using(crate::proofs::Accepting::only_solution), unfolding(crate::specs::Checks::design_checks, crate::specs::Checks::accepted_of))]
 pub fn check_design(alloc: Global, design: &Design, rules: &Rules) -> Result<Accepted, Fault>
     requires nodes { length design.now.nodes ≤ 256 }
     requires binds { length design.now.binds ≤ 1024 }
     requires named { All (HasNodes design.now.nodes) design.now.binds }
-    ensures value { IfOk result (λ accepted. accepted ≡ spec.accepted_of (map (λ e. stated_rule e.kind e.template
-        ((⟦<dyn Rule as Rule>⟧ e.rule.vtable).says_down e.rule.value)
-        ((⟦<dyn Rule as Rule>⟧ e.rule.vtable).says_up e.rule.value)) rules.now.entries) design.now) }
+    ensures value { IfOk result (λ accepted. accepted ≡ spec.accepted_of (map (λ e. stated_rule e.kind
+        e.template ((⟦<dyn Rule as Rule>⟧ e.rule.vtable).says_down e.rule.value) ((⟦<dyn Rule as Rule>⟧
+        e.rule.vtable).says_up e.rule.value)) rules.now.entries) design.now) }
     ensures only { IfOk result (λ accepted. IsOnlySolution (map (λ e. stated_rule e.kind e.template
-        ((⟦<dyn Rule as Rule>⟧ e.rule.vtable).says_down e.rule.value)
-        ((⟦<dyn Rule as Rule>⟧ e.rule.vtable).says_up e.rule.value)) rules.now.entries) design.now accepted.edges accepted.solution) }
-    ensures passes { IfOk result (λ _. first_failing (spec.design_checks (map (λ e. stated_rule e.kind e.template
-        ((⟦<dyn Rule as Rule>⟧ e.rule.vtable).says_down e.rule.value)
-        ((⟦<dyn Rule as Rule>⟧ e.rule.vtable).says_up e.rule.value)) rules.now.entries) design.now) ≡ None) }
-    ensures err { IfErr result (IsFaultOf (first_failing (spec.design_checks (map (λ e. stated_rule e.kind e.template
-        ((⟦<dyn Rule as Rule>⟧ e.rule.vtable).says_down e.rule.value)
-        ((⟦<dyn Rule as Rule>⟧ e.rule.vtable).says_up e.rule.value)) rules.now.entries) design.now))) }
+        ((⟦<dyn Rule as Rule>⟧ e.rule.vtable).says_down e.rule.value) ((⟦<dyn Rule as Rule>⟧
+        e.rule.vtable).says_up e.rule.value)) rules.now.entries) design.now accepted.edges
+        accepted.solution) }
+    ensures passes { IfOk result (λ _. first_failing (spec.design_checks (map (λ e. stated_rule e.kind
+        e.template ((⟦<dyn Rule as Rule>⟧ e.rule.vtable).says_down e.rule.value) ((⟦<dyn Rule as Rule>⟧
+        e.rule.vtable).says_up e.rule.value)) rules.now.entries) design.now) ≡ None) }
+    ensures err { IfErr result (IsFaultOf (first_failing (spec.design_checks (map (λ e. stated_rule e.kind
+        e.template ((⟦<dyn Rule as Rule>⟧ e.rule.vtable).says_down e.rule.value) ((⟦<dyn Rule as Rule>⟧
+        e.rule.vtable).says_up e.rule.value)) rules.now.entries) design.now))) }
     ensures apart { IfOk result (λ accepted. All HasDisjointSets accepted.solution.up) }
 {
     let edges = graph(alloc, design, rules)?;

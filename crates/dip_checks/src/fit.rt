@@ -69,7 +69,8 @@ fn beat_at(ups: &[UpPort], edge: u32) -> u32
 }
 
 fn has_another_beat(ups: &[UpPort], edge: u32, others: &[u32]) -> bool
-    ensures { result ≡ list_any (λ other. not (spec.beat_at ups.now other == spec.beat_at ups.now edge)) others.now }
+    ensures { result ≡ list_any (λ other. not (spec.beat_at ups.now other == spec.beat_at ups.now edge))
+        others.now }
 {
     others
         .iter()
@@ -94,9 +95,9 @@ fn nexus_differs(
     node: u32,
 ) -> Result<bool, Memory>
     requires { length edges.now < 2 ^ 32 }
-    ensures { IfOk result (λ differs. differs ≡ spec.nexus_differs (map (λ e. stated_rule e.kind e.template
-        ((⟦<dyn Rule as Rule>⟧ e.rule.vtable).says_down e.rule.value)
-        ((⟦<dyn Rule as Rule>⟧ e.rule.vtable).says_up e.rule.value)) rules.now.entries) nodes.now edges.now ups.now node) }
+    ensures { IfOk result (λ differs. differs ≡ spec.nexus_differs (map (λ e. stated_rule e.kind
+        e.template ((⟦<dyn Rule as Rule>⟧ e.rule.vtable).says_down e.rule.value) ((⟦<dyn Rule as Rule>⟧
+        e.rule.vtable).says_up e.rule.value)) rules.now.entries) nodes.now edges.now ups.now node) }
 {
     if !is_nexus_node(rules, nodes, node) {
         return Ok(false);
@@ -116,11 +117,11 @@ fn beats_are_equal(
     requires edges { length edges.now < 2 ^ 32 }
     requires nodes { length nodes.now < 2 ^ 32 }
     ensures passes { OnOk result (first (spec.differing_nodes (map (λ e. stated_rule e.kind e.template
-        ((⟦<dyn Rule as Rule>⟧ e.rule.vtable).says_down e.rule.value)
-        ((⟦<dyn Rule as Rule>⟧ e.rule.vtable).says_up e.rule.value)) rules.now.entries) nodes.now edges.now ups.now) ≡ None) }
-    ensures err { IfErr result (IsFaultAt 16 (spec.differing_nodes (map (λ e. stated_rule e.kind e.template
-        ((⟦<dyn Rule as Rule>⟧ e.rule.vtable).says_down e.rule.value)
-        ((⟦<dyn Rule as Rule>⟧ e.rule.vtable).says_up e.rule.value)) rules.now.entries) nodes.now edges.now ups.now)) }
+        ((⟦<dyn Rule as Rule>⟧ e.rule.vtable).says_down e.rule.value) ((⟦<dyn Rule as Rule>⟧
+        e.rule.vtable).says_up e.rule.value)) rules.now.entries) nodes.now edges.now ups.now) ≡ None) }
+    ensures err { IfErr result (IsFaultAt 16 (spec.differing_nodes (map (λ e. stated_rule e.kind
+        e.template ((⟦<dyn Rule as Rule>⟧ e.rule.vtable).says_down e.rule.value) ((⟦<dyn Rule as Rule>⟧
+        e.rule.vtable).says_up e.rule.value)) rules.now.entries) nodes.now edges.now ups.now)) }
 {
     for (node, _) in nodes.iter().enumerate() {
         if nexus_differs(alloc, rules, nodes, edges, ups, node as u32)? {
@@ -144,8 +145,9 @@ fn kind_misfits(
 ) -> Result<bool, Memory>
     requires { length edges.now < 2 ^ 32 }
     ensures { IfOk result (λ misfits. misfits ≡ spec.kind_misfits (map (λ e. stated_rule e.kind e.template
-        ((⟦<dyn Rule as Rule>⟧ e.rule.vtable).says_down e.rule.value)
-        ((⟦<dyn Rule as Rule>⟧ e.rule.vtable).says_up e.rule.value)) rules.now.entries) node kind.now edges.now downs.now ups.now) }
+        ((⟦<dyn Rule as Rule>⟧ e.rule.vtable).says_down e.rule.value) ((⟦<dyn Rule as Rule>⟧
+        e.rule.vtable).says_up e.rule.value)) rules.now.entries) node kind.now edges.now downs.now
+        ups.now) }
 {
     let NodeKind::Ruled { kind, args } = kind else {
         return Ok(false);
@@ -170,11 +172,12 @@ fn templates_fit(
     requires edges { length edges.now < 2 ^ 32 }
     requires nodes { length nodes.now < 2 ^ 32 }
     ensures passes { OnOk result (first (spec.misfitting_nodes (map (λ e. stated_rule e.kind e.template
-        ((⟦<dyn Rule as Rule>⟧ e.rule.vtable).says_down e.rule.value)
-        ((⟦<dyn Rule as Rule>⟧ e.rule.vtable).says_up e.rule.value)) rules.now.entries) nodes.now edges.now downs.now ups.now) ≡ None) }
-    ensures err { IfErr result (IsFaultAt 17 (spec.misfitting_nodes (map (λ e. stated_rule e.kind e.template
-        ((⟦<dyn Rule as Rule>⟧ e.rule.vtable).says_down e.rule.value)
-        ((⟦<dyn Rule as Rule>⟧ e.rule.vtable).says_up e.rule.value)) rules.now.entries) nodes.now edges.now downs.now ups.now)) }
+        ((⟦<dyn Rule as Rule>⟧ e.rule.vtable).says_down e.rule.value) ((⟦<dyn Rule as Rule>⟧
+        e.rule.vtable).says_up e.rule.value)) rules.now.entries) nodes.now edges.now downs.now ups.now) ≡
+        None) }
+    ensures err { IfErr result (IsFaultAt 17 (spec.misfitting_nodes (map (λ e. stated_rule e.kind
+        e.template ((⟦<dyn Rule as Rule>⟧ e.rule.vtable).says_down e.rule.value) ((⟦<dyn Rule as Rule>⟧
+        e.rule.vtable).says_up e.rule.value)) rules.now.entries) nodes.now edges.now downs.now ups.now)) }
 {
     for (node, entry) in nodes.iter().enumerate() {
         if kind_misfits(alloc, rules, node as u32, &entry.kind, edges, downs, ups)? {
@@ -199,11 +202,12 @@ fn weight_is_borne(
     requires edges { length edges.now < 2 ^ 32 }
     requires nodes { length nodes.now < 2 ^ 32 }
     ensures passes { OnOk result (first (spec.overweight (weight (map (λ e. stated_rule e.kind e.template
-        ((⟦<dyn Rule as Rule>⟧ e.rule.vtable).says_down e.rule.value)
-        ((⟦<dyn Rule as Rule>⟧ e.rule.vtable).says_up e.rule.value)) rules.now.entries) nodes.now edges.now downs.now ups.now)) ≡ None) }
-    ensures err { IfErr result (IsFaultAt 18 (spec.overweight (weight (map (λ e. stated_rule e.kind e.template
-        ((⟦<dyn Rule as Rule>⟧ e.rule.vtable).says_down e.rule.value)
-        ((⟦<dyn Rule as Rule>⟧ e.rule.vtable).says_up e.rule.value)) rules.now.entries) nodes.now edges.now downs.now ups.now))) }
+        ((⟦<dyn Rule as Rule>⟧ e.rule.vtable).says_down e.rule.value) ((⟦<dyn Rule as Rule>⟧
+        e.rule.vtable).says_up e.rule.value)) rules.now.entries) nodes.now edges.now downs.now ups.now)) ≡
+        None) }
+    ensures err { IfErr result (IsFaultAt 18 (spec.overweight (weight (map (λ e. stated_rule e.kind
+        e.template ((⟦<dyn Rule as Rule>⟧ e.rule.vtable).says_down e.rule.value) ((⟦<dyn Rule as Rule>⟧
+        e.rule.vtable).says_up e.rule.value)) rules.now.entries) nodes.now edges.now downs.now ups.now))) }
 {
     let subject = weight(alloc, rules, nodes, edges, downs, ups)?;
     if subject > MOST_WEIGHT {
@@ -228,11 +232,12 @@ pub fn network_fits(
     requires edges { length edges.now < 2 ^ 32 }
     requires nodes { length nodes.now < 2 ^ 32 }
     ensures passes { OnOk result (first_failing (spec.fit_checks (map (λ e. stated_rule e.kind e.template
-        ((⟦<dyn Rule as Rule>⟧ e.rule.vtable).says_down e.rule.value)
-        ((⟦<dyn Rule as Rule>⟧ e.rule.vtable).says_up e.rule.value)) rules.now.entries) nodes.now edges.now downs.now ups.now) ≡ None) }
-    ensures err { IfErr result (IsFaultOf (first_failing (spec.fit_checks (map (λ e. stated_rule e.kind e.template
-        ((⟦<dyn Rule as Rule>⟧ e.rule.vtable).says_down e.rule.value)
-        ((⟦<dyn Rule as Rule>⟧ e.rule.vtable).says_up e.rule.value)) rules.now.entries) nodes.now edges.now downs.now ups.now))) }
+        ((⟦<dyn Rule as Rule>⟧ e.rule.vtable).says_down e.rule.value) ((⟦<dyn Rule as Rule>⟧
+        e.rule.vtable).says_up e.rule.value)) rules.now.entries) nodes.now edges.now downs.now ups.now) ≡
+        None) }
+    ensures err { IfErr result (IsFaultOf (first_failing (spec.fit_checks (map (λ e. stated_rule e.kind
+        e.template ((⟦<dyn Rule as Rule>⟧ e.rule.vtable).says_down e.rule.value) ((⟦<dyn Rule as Rule>⟧
+        e.rule.vtable).says_up e.rule.value)) rules.now.entries) nodes.now edges.now downs.now ups.now))) }
 {
     beats_are_equal(alloc, rules, nodes, edges, ups)?;
     templates_fit(alloc, rules, nodes, edges, downs, ups)?;

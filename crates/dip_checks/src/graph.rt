@@ -23,9 +23,9 @@ fn kind_is_unruled(rules: &Rules, kind: &NodeKind) -> bool
 }
 
 fn unruled_node(rules: &Rules, nodes: &[NodeEntry]) -> Option<u64>
-    ensures { result ≡ first (places (λ number node. spec.kind_is_unruled (map (λ e. stated_rule e.kind e.template
-        ((⟦<dyn Rule as Rule>⟧ e.rule.vtable).says_down e.rule.value)
-        ((⟦<dyn Rule as Rule>⟧ e.rule.vtable).says_up e.rule.value)) rules.now.entries) node.kind) 0 nodes.now) }
+    ensures { result ≡ first (places (λ number node. spec.kind_is_unruled (map (λ e. stated_rule e.kind
+        e.template ((⟦<dyn Rule as Rule>⟧ e.rule.vtable).says_down e.rule.value) ((⟦<dyn Rule as Rule>⟧
+        e.rule.vtable).says_up e.rule.value)) rules.now.entries) node.kind) 0 nodes.now) }
 {
     for (number, node) in nodes.iter().enumerate() {
         if kind_is_unruled(rules, &node.kind) {
@@ -98,11 +98,11 @@ fn binds_make_no_cycle(alloc: Global, design: &Design) -> Result<(), Fault>
 
 #[tactic(auto, using(crate::proofs::Stars::bind_waits, crate::proofs::Stars::node_fails, crate::proofs::Stars::too_many))]
 fn star_fault(design: &Design, rules: &Rules, fault: StarFault) -> Fault
-    requires { IsStarFault (map (λ e. stated_rule e.kind e.template
-        ((⟦<dyn Rule as Rule>⟧ e.rule.vtable).says_down e.rule.value)
-        ((⟦<dyn Rule as Rule>⟧ e.rule.vtable).says_up e.rule.value)) rules.now.entries) design.now.nodes (design_counts (map (λ e. stated_rule e.kind e.template
-        ((⟦<dyn Rule as Rule>⟧ e.rule.vtable).says_down e.rule.value)
-        ((⟦<dyn Rule as Rule>⟧ e.rule.vtable).says_up e.rule.value)) rules.now.entries) design.now) fault }
+    requires { IsStarFault (map (λ e. stated_rule e.kind e.template ((⟦<dyn Rule as Rule>⟧
+        e.rule.vtable).says_down e.rule.value) ((⟦<dyn Rule as Rule>⟧ e.rule.vtable).says_up
+        e.rule.value)) rules.now.entries) design.now.nodes (design_counts (map (λ e. stated_rule e.kind
+        e.template ((⟦<dyn Rule as Rule>⟧ e.rule.vtable).says_down e.rule.value) ((⟦<dyn Rule as Rule>⟧
+        e.rule.vtable).says_up e.rule.value)) rules.now.entries) design.now) fault }
     ensures { IsFaultOf (first_failing (spec.star_checks (map (λ e. stated_rule e.kind e.template
         ((⟦<dyn Rule as Rule>⟧ e.rule.vtable).says_down e.rule.value)
         ((⟦<dyn Rule as Rule>⟧ e.rule.vtable).says_up e.rule.value)) rules.now.entries) design.now)) result }
@@ -133,12 +133,12 @@ fn edges_of(alloc: Global, design: &Design, rules: &Rules) -> Result<Edges, Faul
         ((⟦<dyn Rule as Rule>⟧ e.rule.vtable).says_down e.rule.value)
         ((⟦<dyn Rule as Rule>⟧ e.rule.vtable).says_up e.rule.value)) rules.now.entries) design.now) }
     ensures few { IfOk result (λ edges. length edges ≤ 1024) }
-    ensures passes { IfOk result (λ _. first_failing (spec.star_checks (map (λ e. stated_rule e.kind e.template
-        ((⟦<dyn Rule as Rule>⟧ e.rule.vtable).says_down e.rule.value)
-        ((⟦<dyn Rule as Rule>⟧ e.rule.vtable).says_up e.rule.value)) rules.now.entries) design.now) ≡ None) }
-    ensures err { IfErr result (IsFaultOf (first_failing (spec.star_checks (map (λ e. stated_rule e.kind e.template
-        ((⟦<dyn Rule as Rule>⟧ e.rule.vtable).says_down e.rule.value)
-        ((⟦<dyn Rule as Rule>⟧ e.rule.vtable).says_up e.rule.value)) rules.now.entries) design.now))) }
+    ensures passes { IfOk result (λ _. first_failing (spec.star_checks (map (λ e. stated_rule e.kind
+        e.template ((⟦<dyn Rule as Rule>⟧ e.rule.vtable).says_down e.rule.value) ((⟦<dyn Rule as Rule>⟧
+        e.rule.vtable).says_up e.rule.value)) rules.now.entries) design.now) ≡ None) }
+    ensures err { IfErr result (IsFaultOf (first_failing (spec.star_checks (map (λ e. stated_rule e.kind
+        e.template ((⟦<dyn Rule as Rule>⟧ e.rule.vtable).says_down e.rule.value) ((⟦<dyn Rule as Rule>⟧
+        e.rule.vtable).says_up e.rule.value)) rules.now.entries) design.now))) }
 {
     match resolve(alloc, design, rules) {
         Ok(edges) => Ok(edges),
@@ -155,12 +155,12 @@ pub fn graph(alloc: Global, design: &Design, rules: &Rules) -> Result<Edges, Fau
         ((⟦<dyn Rule as Rule>⟧ e.rule.vtable).says_up e.rule.value)) rules.now.entries) design.now) }
     ensures acyclic { IfOk result (λ _. first (left_out design.now) ≡ None) }
     ensures few { IfOk result (λ edges. length edges ≤ 1024) }
-    ensures passes { IfOk result (λ _. first_failing (spec.graph_checks (map (λ e. stated_rule e.kind e.template
-        ((⟦<dyn Rule as Rule>⟧ e.rule.vtable).says_down e.rule.value)
-        ((⟦<dyn Rule as Rule>⟧ e.rule.vtable).says_up e.rule.value)) rules.now.entries) design.now) ≡ None) }
-    ensures err { IfErr result (IsFaultOf (first_failing (spec.graph_checks (map (λ e. stated_rule e.kind e.template
-        ((⟦<dyn Rule as Rule>⟧ e.rule.vtable).says_down e.rule.value)
-        ((⟦<dyn Rule as Rule>⟧ e.rule.vtable).says_up e.rule.value)) rules.now.entries) design.now))) }
+    ensures passes { IfOk result (λ _. first_failing (spec.graph_checks (map (λ e. stated_rule e.kind
+        e.template ((⟦<dyn Rule as Rule>⟧ e.rule.vtable).says_down e.rule.value) ((⟦<dyn Rule as Rule>⟧
+        e.rule.vtable).says_up e.rule.value)) rules.now.entries) design.now) ≡ None) }
+    ensures err { IfErr result (IsFaultOf (first_failing (spec.graph_checks (map (λ e. stated_rule e.kind
+        e.template ((⟦<dyn Rule as Rule>⟧ e.rule.vtable).says_down e.rule.value) ((⟦<dyn Rule as Rule>⟧
+        e.rule.vtable).says_up e.rule.value)) rules.now.entries) design.now))) }
 {
     kinds_have_rules(design, rules)?;
     binds_are_straight(design)?;

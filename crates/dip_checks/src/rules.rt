@@ -12,12 +12,12 @@ use std::alloc::Global;
 
 #[tactic(auto, using(crate::proofs::Refusals::down_refused, crate::proofs::Refusals::up_refused))]
 fn refusal(design: &Design, edges: &[Edge], rules: &Rules, fault: NegFault) -> Fault
-    requires { IsNegFault (map (λ e. stated_rule e.kind e.template
-        ((⟦<dyn Rule as Rule>⟧ e.rule.vtable).says_down e.rule.value)
-        ((⟦<dyn Rule as Rule>⟧ e.rule.vtable).says_up e.rule.value)) rules.now.entries) design.now edges.now fault }
+    requires { IsNegFault (map (λ e. stated_rule e.kind e.template ((⟦<dyn Rule as Rule>⟧
+        e.rule.vtable).says_down e.rule.value) ((⟦<dyn Rule as Rule>⟧ e.rule.vtable).says_up
+        e.rule.value)) rules.now.entries) design.now edges.now fault }
     ensures { IsFaultOf (first_failing (spec.rule_checks (map (λ e. stated_rule e.kind e.template
-        ((⟦<dyn Rule as Rule>⟧ e.rule.vtable).says_down e.rule.value)
-        ((⟦<dyn Rule as Rule>⟧ e.rule.vtable).says_up e.rule.value)) rules.now.entries) design.now edges.now)) result }
+        ((⟦<dyn Rule as Rule>⟧ e.rule.vtable).says_down e.rule.value) ((⟦<dyn Rule as Rule>⟧
+        e.rule.vtable).says_up e.rule.value)) rules.now.entries) design.now edges.now)) result }
 {
     match fault {
         NegFault::DownRefused { node, .. } => Fault::Check {
@@ -43,17 +43,17 @@ pub fn agreed(
     requires nodes { length design.now.nodes < 2 ^ 32 }
     requires edges { length edges.now < 2 ^ 32 }
     ensures down { IfOk result (λ solution. downs (map (λ e. stated_rule e.kind e.template
-        ((⟦<dyn Rule as Rule>⟧ e.rule.vtable).says_down e.rule.value)
-        ((⟦<dyn Rule as Rule>⟧ e.rule.vtable).says_up e.rule.value)) rules.now.entries) design.now edges.now ≡ Ok solution.down) }
+        ((⟦<dyn Rule as Rule>⟧ e.rule.vtable).says_down e.rule.value) ((⟦<dyn Rule as Rule>⟧
+        e.rule.vtable).says_up e.rule.value)) rules.now.entries) design.now edges.now ≡ Ok solution.down) }
     ensures up { IfOk result (λ solution. ups (map (λ e. stated_rule e.kind e.template
-        ((⟦<dyn Rule as Rule>⟧ e.rule.vtable).says_down e.rule.value)
-        ((⟦<dyn Rule as Rule>⟧ e.rule.vtable).says_up e.rule.value)) rules.now.entries) design.now edges.now ≡ Ok solution.up) }
-    ensures passes { IfOk result (λ _. first_failing (spec.rule_checks (map (λ e. stated_rule e.kind e.template
-        ((⟦<dyn Rule as Rule>⟧ e.rule.vtable).says_down e.rule.value)
-        ((⟦<dyn Rule as Rule>⟧ e.rule.vtable).says_up e.rule.value)) rules.now.entries) design.now edges.now) ≡ None) }
-    ensures err { IfErr result (IsFaultOf (first_failing (spec.rule_checks (map (λ e. stated_rule e.kind e.template
-        ((⟦<dyn Rule as Rule>⟧ e.rule.vtable).says_down e.rule.value)
-        ((⟦<dyn Rule as Rule>⟧ e.rule.vtable).says_up e.rule.value)) rules.now.entries) design.now edges.now))) }
+        ((⟦<dyn Rule as Rule>⟧ e.rule.vtable).says_down e.rule.value) ((⟦<dyn Rule as Rule>⟧
+        e.rule.vtable).says_up e.rule.value)) rules.now.entries) design.now edges.now ≡ Ok solution.up) }
+    ensures passes { IfOk result (λ _. first_failing (spec.rule_checks (map (λ e. stated_rule e.kind
+        e.template ((⟦<dyn Rule as Rule>⟧ e.rule.vtable).says_down e.rule.value) ((⟦<dyn Rule as Rule>⟧
+        e.rule.vtable).says_up e.rule.value)) rules.now.entries) design.now edges.now) ≡ None) }
+    ensures err { IfErr result (IsFaultOf (first_failing (spec.rule_checks (map (λ e. stated_rule e.kind
+        e.template ((⟦<dyn Rule as Rule>⟧ e.rule.vtable).says_down e.rule.value) ((⟦<dyn Rule as Rule>⟧
+        e.rule.vtable).says_up e.rule.value)) rules.now.entries) design.now edges.now))) }
 {
     match negotiate(alloc, design, edges, rules) {
         Ok(solution) => Ok(solution),

@@ -99,7 +99,8 @@ fn all_sets(ups: &[UpPort], edges: &[u32]) -> Result<u64, Memory>
 }
 
 fn xbar_weight(ins: &[u32], outs: &[u32], ups: &[UpPort]) -> Result<u64, Memory>
-    ensures { IfOk result (λ weight. weight ≡ length ins.now * (4 * length outs.now + spec.all_sets ups.now outs.now)) }
+    ensures { IfOk result (λ weight. weight ≡ length ins.now * (4 * length outs.now + spec.all_sets
+        ups.now outs.now)) }
 {
     let queues = times(4, outs.len() as u64)?;
     let each = plus(queues, all_sets(ups, outs)?)?;
@@ -114,7 +115,8 @@ fn template_weight(
     downs: &[DownPort],
     ups: &[UpPort],
 ) -> Result<u64, Memory>
-    ensures { IfOk result (λ weight. weight ≡ spec.template_weight template first ins.now outs.now downs.now ups.now) }
+    ensures { IfOk result (λ weight. weight ≡ spec.template_weight template first ins.now outs.now
+        downs.now ups.now) }
 {
     match template {
         Template::Buffer => Ok(outs.len() as u64),
@@ -145,8 +147,9 @@ fn kind_weight(
 ) -> Result<u64, Memory>
     requires { length edges.now < 2 ^ 32 }
     ensures { IfOk result (λ weight. weight ≡ spec.kind_weight (map (λ e. stated_rule e.kind e.template
-        ((⟦<dyn Rule as Rule>⟧ e.rule.vtable).says_down e.rule.value)
-        ((⟦<dyn Rule as Rule>⟧ e.rule.vtable).says_up e.rule.value)) rules.now.entries) node kind.now edges.now downs.now ups.now) }
+        ((⟦<dyn Rule as Rule>⟧ e.rule.vtable).says_down e.rule.value) ((⟦<dyn Rule as Rule>⟧
+        e.rule.vtable).says_up e.rule.value)) rules.now.entries) node kind.now edges.now downs.now
+        ups.now) }
 {
     let NodeKind::Ruled { kind, args } = kind else {
         return Ok(0);
@@ -177,8 +180,8 @@ fn node_weights(
     requires edges { length edges.now < 2 ^ 32 }
     requires nodes { length nodes.now < 2 ^ 32 }
     ensures { IfOk result (λ weight. weight ≡ spec.node_weights (map (λ e. stated_rule e.kind e.template
-        ((⟦<dyn Rule as Rule>⟧ e.rule.vtable).says_down e.rule.value)
-        ((⟦<dyn Rule as Rule>⟧ e.rule.vtable).says_up e.rule.value)) rules.now.entries) 0 nodes.now edges.now downs.now ups.now) }
+        ((⟦<dyn Rule as Rule>⟧ e.rule.vtable).says_down e.rule.value) ((⟦<dyn Rule as Rule>⟧
+        e.rule.vtable).says_up e.rule.value)) rules.now.entries) 0 nodes.now edges.now downs.now ups.now) }
 {
     let mut weight = 0;
     for (node, entry) in nodes.iter().enumerate() {
@@ -200,8 +203,8 @@ pub fn weight(
     requires edges { length edges.now < 2 ^ 32 }
     requires nodes { length nodes.now < 2 ^ 32 }
     ensures { IfOk result (λ weight. weight ≡ spec.weight (map (λ e. stated_rule e.kind e.template
-        ((⟦<dyn Rule as Rule>⟧ e.rule.vtable).says_down e.rule.value)
-        ((⟦<dyn Rule as Rule>⟧ e.rule.vtable).says_up e.rule.value)) rules.now.entries) nodes.now edges.now downs.now ups.now) }
+        ((⟦<dyn Rule as Rule>⟧ e.rule.vtable).says_down e.rule.value) ((⟦<dyn Rule as Rule>⟧
+        e.rule.vtable).says_up e.rule.value)) rules.now.entries) nodes.now edges.now downs.now ups.now) }
 {
     let built = node_weights(alloc, rules, nodes, edges, downs, ups)?;
     plus(times(8, edges.len() as u64)?, built)

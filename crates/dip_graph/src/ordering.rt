@@ -84,7 +84,8 @@ fn order_of(alloc: Global, binds: &[BindEntry], nodes: u32) -> Result<Numbers, M
     Ok(listed)
 }
 
-/// The nodes in canonical order, without those that wait for themselves: each next one is the least node whose
+/// The nodes in canonical order, without those that wait for themselves: each next one is the least node
+/// whose
 /// bound from-nodes stand before it.
 pub fn canonical_order(alloc: Global, design: &Design) -> Result<Numbers, Memory>
     requires { length design.now.nodes < 2 ^ 32 }

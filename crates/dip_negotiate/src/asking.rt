@@ -10,8 +10,9 @@ use std::alloc::Global;
 
 /// Whether all in ports and out ports of a node belong together.
 pub fn is_nexus_node(rules: &Rules, nodes: &[NodeEntry], node: u32) -> bool
-    ensures { result ≡ spec.is_nexus_node (map (λ e. stated_rule e.kind e.template ((⟦<dyn Rule as Rule>⟧ e.rule.vtable).says_down e.rule.value)
-        ((⟦<dyn Rule as Rule>⟧ e.rule.vtable).says_up e.rule.value)) rules.now.entries) nodes.now node }
+    ensures { result ≡ spec.is_nexus_node (map (λ e. stated_rule e.kind e.template ((⟦<dyn Rule as Rule>⟧
+        e.rule.vtable).says_down e.rule.value) ((⟦<dyn Rule as Rule>⟧ e.rule.vtable).says_up
+        e.rule.value)) rules.now.entries) nodes.now node }
 {
     let Some(NodeKind::Ruled { kind, .. }) = kind_at(nodes, node) else {
         return false;
@@ -64,8 +65,9 @@ pub fn asks_down(
 ) -> Result<Numbers, Memory>
     requires { length edges.now < 2 ^ 32 }
     ensures { IfOk result (λ numbers. numbers ≡ spec.asked (map (λ e. stated_rule e.kind e.template
-        ((⟦<dyn Rule as Rule>⟧ e.rule.vtable).says_down e.rule.value) ((⟦<dyn Rule as Rule>⟧ e.rule.vtable).says_up e.rule.value)) rules.now.entries) nodes.now edges.now spec.source_end spec.sink_end
-        edge.now) }
+        ((⟦<dyn Rule as Rule>⟧ e.rule.vtable).says_down e.rule.value) ((⟦<dyn Rule as Rule>⟧
+        e.rule.vtable).says_up e.rule.value)) rules.now.entries) nodes.now edges.now spec.source_end
+        spec.sink_end edge.now) }
 {
     let own = source_end(edge);
     entering(alloc, is_nexus_node(rules, nodes, own.node), own, edges)
@@ -81,8 +83,9 @@ pub fn asks_up(
 ) -> Result<Numbers, Memory>
     requires { length edges.now < 2 ^ 32 }
     ensures { IfOk result (λ numbers. numbers ≡ spec.asked (map (λ e. stated_rule e.kind e.template
-        ((⟦<dyn Rule as Rule>⟧ e.rule.vtable).says_down e.rule.value) ((⟦<dyn Rule as Rule>⟧ e.rule.vtable).says_up e.rule.value)) rules.now.entries) nodes.now edges.now spec.sink_end spec.source_end
-        edge.now) }
+        ((⟦<dyn Rule as Rule>⟧ e.rule.vtable).says_down e.rule.value) ((⟦<dyn Rule as Rule>⟧
+        e.rule.vtable).says_up e.rule.value)) rules.now.entries) nodes.now edges.now spec.sink_end
+        spec.source_end edge.now) }
 {
     let own = sink_end(edge);
     leaving(alloc, is_nexus_node(rules, nodes, own.node), own, edges)

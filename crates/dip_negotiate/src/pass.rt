@@ -55,8 +55,9 @@ pub trait Negotiated: Duplicate {
         edge: &Edge,
     ) -> Result<Numbers, Memory>
         requires { length edges.now < 2 ^ 32 }
-        ensures { IfOk result (λ numbers. numbers ≡ (pass (map (λ e. stated_rule e.kind e.template ((⟦<dyn Rule as Rule>⟧ e.rule.vtable).says_down
-            e.rule.value) ((⟦<dyn Rule as Rule>⟧ e.rule.vtable).says_up e.rule.value)) rules.now.entries) nodes.now edges.now).asks edge.now) };
+        ensures { IfOk result (λ numbers. numbers ≡ (pass (map (λ e. stated_rule e.kind e.template
+            ((⟦<dyn Rule as Rule>⟧ e.rule.vtable).says_down e.rule.value) ((⟦<dyn Rule as Rule>⟧
+            e.rule.vtable).says_up e.rule.value)) rules.now.entries) nodes.now edges.now).asks edge.now) };
 
     /// What is stated of an edge from the ports of those.
     fn says(
@@ -67,8 +68,9 @@ pub trait Negotiated: Duplicate {
         edge: &Edge,
         ports: &[Self],
     ) -> Result<Self, RuleFault>
-        ensures { Answers ((pass (map (λ e. stated_rule e.kind e.template ((⟦<dyn Rule as Rule>⟧ e.rule.vtable).says_down
-            e.rule.value) ((⟦<dyn Rule as Rule>⟧ e.rule.vtable).says_up e.rule.value)) rules.now.entries) nodes.now edges.now).says edge.now ports.now) result };
+        ensures { Answers ((pass (map (λ e. stated_rule e.kind e.template ((⟦<dyn Rule as Rule>⟧
+            e.rule.vtable).says_down e.rule.value) ((⟦<dyn Rule as Rule>⟧ e.rule.vtable).says_up
+            e.rule.value)) rules.now.entries) nodes.now edges.now).says edge.now ports.now) result };
 }
 
 impl Negotiated for DownPort {
@@ -175,8 +177,9 @@ fn stated<P: Negotiated>(
     ports: &[P],
 ) -> Result<P, RuleFault>
     requires { length edges.now < 2 ^ 32 }
-    ensures { Answers (stated (P.pass (map (λ e. stated_rule e.kind e.template ((⟦<dyn Rule as Rule>⟧ e.rule.vtable).says_down
-        e.rule.value) ((⟦<dyn Rule as Rule>⟧ e.rule.vtable).says_up e.rule.value)) rules.now.entries) nodes.now edges.now) ports.now edge.now) result }
+    ensures { Answers (stated (P.pass (map (λ e. stated_rule e.kind e.template ((⟦<dyn Rule as Rule>⟧
+        e.rule.vtable).says_down e.rule.value) ((⟦<dyn Rule as Rule>⟧ e.rule.vtable).says_up
+        e.rule.value)) rules.now.entries) nodes.now edges.now) ports.now edge.now) result }
 {
     let numbers = P::asks(alloc, rules, nodes, edges, edge)?;
     let some = picked(alloc, ports, numbers.as_slice())?;
@@ -211,10 +214,14 @@ pub fn pass<P: Negotiated>(
     steps: &[Step],
 ) -> Result<Items<P>, PassFault>
     requires { length edges.now < 2 ^ 32 }
-    ensures ok { IfOk result (λ ports. run (P.pass (map (λ e. stated_rule e.kind e.template ((⟦<dyn Rule as Rule>⟧ e.rule.vtable).says_down
-        e.rule.value) ((⟦<dyn Rule as Rule>⟧ e.rule.vtable).says_up e.rule.value)) rules.now.entries) nodes.now edges.now) (replicate (length edges.now) P.unknown) steps.now ≡ Ok ports) }
-    ensures err { IfErr result (IsPassFault (run (P.pass (map (λ e. stated_rule e.kind e.template ((⟦<dyn Rule as Rule>⟧ e.rule.vtable).says_down
-        e.rule.value) ((⟦<dyn Rule as Rule>⟧ e.rule.vtable).says_up e.rule.value)) rules.now.entries) nodes.now edges.now) (replicate (length edges.now) P.unknown) steps.now)) }
+    ensures ok { IfOk result (λ ports. run (P.pass (map (λ e. stated_rule e.kind e.template
+        ((⟦<dyn Rule as Rule>⟧ e.rule.vtable).says_down e.rule.value) ((⟦<dyn Rule as Rule>⟧
+        e.rule.vtable).says_up e.rule.value)) rules.now.entries) nodes.now edges.now) (replicate (length
+        edges.now) P.unknown) steps.now ≡ Ok ports) }
+    ensures err { IfErr result (IsPassFault (run (P.pass (map (λ e. stated_rule e.kind e.template
+        ((⟦<dyn Rule as Rule>⟧ e.rule.vtable).says_down e.rule.value) ((⟦<dyn Rule as Rule>⟧
+        e.rule.vtable).says_up e.rule.value)) rules.now.entries) nodes.now edges.now) (replicate (length
+        edges.now) P.unknown) steps.now)) }
 {
     let mut ports = unknowns(alloc, edges.len())?;
     for step in steps {

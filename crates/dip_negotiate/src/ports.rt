@@ -65,8 +65,9 @@ pub fn says_down(
     edge: &Edge,
     ins: &[DownPort],
 ) -> Result<DownPort, RuleFault>
-    ensures { Answers (spec.says_down (map (λ e. stated_rule e.kind e.template ((⟦<dyn Rule as Rule>⟧ e.rule.vtable).says_down e.rule.value)
-        ((⟦<dyn Rule as Rule>⟧ e.rule.vtable).says_up e.rule.value)) rules.now.entries) nodes.now edge.now ins.now) result }
+    ensures { Answers (spec.says_down (map (λ e. stated_rule e.kind e.template ((⟦<dyn Rule as Rule>⟧
+        e.rule.vtable).says_down e.rule.value) ((⟦<dyn Rule as Rule>⟧ e.rule.vtable).says_up
+        e.rule.value)) rules.now.entries) nodes.now edge.now ins.now) result }
 {
     match kind_at(nodes, edge.from) {
         Some(NodeKind::Source { ids, emits, .. }) => {
@@ -85,8 +86,9 @@ pub fn says_up(
     edge: &Edge,
     outs: &[UpPort],
 ) -> Result<UpPort, RuleFault>
-    ensures { Answers (spec.says_up (map (λ e. stated_rule e.kind e.template ((⟦<dyn Rule as Rule>⟧ e.rule.vtable).says_down e.rule.value)
-        ((⟦<dyn Rule as Rule>⟧ e.rule.vtable).says_up e.rule.value)) rules.now.entries) nodes.now edge.now outs.now) result }
+    ensures { Answers (spec.says_up (map (λ e. stated_rule e.kind e.template ((⟦<dyn Rule as Rule>⟧
+        e.rule.vtable).says_down e.rule.value) ((⟦<dyn Rule as Rule>⟧ e.rule.vtable).says_up
+        e.rule.value)) rules.now.entries) nodes.now edge.now outs.now) result }
 {
     match kind_at(nodes, edge.to) {
         Some(

@@ -45,8 +45,9 @@ impl From<Memory> for NegFault {
 }
 
 fn place_of(rules: &Rules, nodes: &[NodeEntry], own: End) -> End
-    ensures { result ≡ spec.place_of (map (λ e. stated_rule e.kind e.template ((⟦<dyn Rule as Rule>⟧ e.rule.vtable).says_down
-        e.rule.value) ((⟦<dyn Rule as Rule>⟧ e.rule.vtable).says_up e.rule.value)) rules.now.entries) nodes.now own }
+    ensures { result ≡ spec.place_of (map (λ e. stated_rule e.kind e.template ((⟦<dyn Rule as Rule>⟧
+        e.rule.vtable).says_down e.rule.value) ((⟦<dyn Rule as Rule>⟧ e.rule.vtable).says_up
+        e.rule.value)) rules.now.entries) nodes.now own }
 {
     let nexus = is_nexus_node(rules, nodes, own.node);
     End {
@@ -64,10 +65,12 @@ fn down_ports(
 ) -> Result<DownPorts, NegFault>
     requires edges { length edges.now < 2 ^ 32 }
     requires order { order.now ≡ canonical_order design.now }
-    ensures ok { IfOk result (λ ports. spec.downs (map (λ e. stated_rule e.kind e.template ((⟦<dyn Rule as Rule>⟧ e.rule.vtable).says_down
-        e.rule.value) ((⟦<dyn Rule as Rule>⟧ e.rule.vtable).says_up e.rule.value)) rules.now.entries) design.now edges.now ≡ Ok ports) }
-    ensures err { IfErr result (spec.IsDownFault (map (λ e. stated_rule e.kind e.template ((⟦<dyn Rule as Rule>⟧ e.rule.vtable).says_down
-        e.rule.value) ((⟦<dyn Rule as Rule>⟧ e.rule.vtable).says_up e.rule.value)) rules.now.entries) design.now edges.now) }
+    ensures ok { IfOk result (λ ports. spec.downs (map (λ e. stated_rule e.kind e.template
+        ((⟦<dyn Rule as Rule>⟧ e.rule.vtable).says_down e.rule.value) ((⟦<dyn Rule as Rule>⟧
+        e.rule.vtable).says_up e.rule.value)) rules.now.entries) design.now edges.now ≡ Ok ports) }
+    ensures err { IfErr result (spec.IsDownFault (map (λ e. stated_rule e.kind e.template
+        ((⟦<dyn Rule as Rule>⟧ e.rule.vtable).says_down e.rule.value) ((⟦<dyn Rule as Rule>⟧
+        e.rule.vtable).says_up e.rule.value)) rules.now.entries) design.now edges.now) }
 {
     let nodes = design.nodes.as_slice();
     let steps = steps_down(alloc, order, edges)?;
@@ -90,10 +93,12 @@ fn up_ports(
 ) -> Result<UpPorts, NegFault>
     requires edges { length edges.now < 2 ^ 32 }
     requires order { order.now ≡ canonical_order design.now }
-    ensures ok { IfOk result (λ ports. spec.ups (map (λ e. stated_rule e.kind e.template ((⟦<dyn Rule as Rule>⟧ e.rule.vtable).says_down
-        e.rule.value) ((⟦<dyn Rule as Rule>⟧ e.rule.vtable).says_up e.rule.value)) rules.now.entries) design.now edges.now ≡ Ok ports) }
-    ensures err { IfErr result (spec.IsUpFault (map (λ e. stated_rule e.kind e.template ((⟦<dyn Rule as Rule>⟧ e.rule.vtable).says_down
-        e.rule.value) ((⟦<dyn Rule as Rule>⟧ e.rule.vtable).says_up e.rule.value)) rules.now.entries) design.now edges.now) }
+    ensures ok { IfOk result (λ ports. spec.ups (map (λ e. stated_rule e.kind e.template
+        ((⟦<dyn Rule as Rule>⟧ e.rule.vtable).says_down e.rule.value) ((⟦<dyn Rule as Rule>⟧
+        e.rule.vtable).says_up e.rule.value)) rules.now.entries) design.now edges.now ≡ Ok ports) }
+    ensures err { IfErr result (spec.IsUpFault (map (λ e. stated_rule e.kind e.template
+        ((⟦<dyn Rule as Rule>⟧ e.rule.vtable).says_down e.rule.value) ((⟦<dyn Rule as Rule>⟧
+        e.rule.vtable).says_up e.rule.value)) rules.now.entries) design.now edges.now) }
 {
     let nodes = design.nodes.as_slice();
     let steps = steps_up(alloc, order, edges)?;
@@ -109,7 +114,8 @@ fn up_ports(
 
 /// What goes down and up all edges of a design, by the rules of its nodes.
 ///
-/// `NegFault::DownRefused` names the first refusal in canonical order, and `NegFault::UpRefused`, where nothing is
+/// `NegFault::DownRefused` names the first refusal in canonical order, and `NegFault::UpRefused`, where
+/// nothing is
 /// refused down, the first one in the reversed order.
 pub fn negotiate(
     alloc: Global,
@@ -119,12 +125,15 @@ pub fn negotiate(
 ) -> Result<Solution, NegFault>
     requires nodes { length design.now.nodes < 2 ^ 32 }
     requires edges { length edges.now < 2 ^ 32 }
-    ensures down { IfOk result (λ solution. spec.downs (map (λ e. stated_rule e.kind e.template ((⟦<dyn Rule as Rule>⟧ e.rule.vtable).says_down
-        e.rule.value) ((⟦<dyn Rule as Rule>⟧ e.rule.vtable).says_up e.rule.value)) rules.now.entries) design.now edges.now ≡ Ok solution.down) }
-    ensures up { IfOk result (λ solution. spec.ups (map (λ e. stated_rule e.kind e.template ((⟦<dyn Rule as Rule>⟧ e.rule.vtable).says_down
-        e.rule.value) ((⟦<dyn Rule as Rule>⟧ e.rule.vtable).says_up e.rule.value)) rules.now.entries) design.now edges.now ≡ Ok solution.up) }
-    ensures err { IfErr result (spec.IsNegFault (map (λ e. stated_rule e.kind e.template ((⟦<dyn Rule as Rule>⟧ e.rule.vtable).says_down
-        e.rule.value) ((⟦<dyn Rule as Rule>⟧ e.rule.vtable).says_up e.rule.value)) rules.now.entries) design.now edges.now) }
+    ensures down { IfOk result (λ solution. spec.downs (map (λ e. stated_rule e.kind e.template
+        ((⟦<dyn Rule as Rule>⟧ e.rule.vtable).says_down e.rule.value) ((⟦<dyn Rule as Rule>⟧
+        e.rule.vtable).says_up e.rule.value)) rules.now.entries) design.now edges.now ≡ Ok solution.down) }
+    ensures up { IfOk result (λ solution. spec.ups (map (λ e. stated_rule e.kind e.template
+        ((⟦<dyn Rule as Rule>⟧ e.rule.vtable).says_down e.rule.value) ((⟦<dyn Rule as Rule>⟧
+        e.rule.vtable).says_up e.rule.value)) rules.now.entries) design.now edges.now ≡ Ok solution.up) }
+    ensures err { IfErr result (spec.IsNegFault (map (λ e. stated_rule e.kind e.template
+        ((⟦<dyn Rule as Rule>⟧ e.rule.vtable).says_down e.rule.value) ((⟦<dyn Rule as Rule>⟧
+        e.rule.vtable).says_up e.rule.value)) rules.now.entries) design.now edges.now) }
 {
     let order = canonical_order(alloc, design)?;
     let down = down_ports(alloc, design, edges, rules, order.as_slice())?;

@@ -38,9 +38,11 @@ pub struct ByDown<F> {
 }
 
 impl<F: Fn(&Args, &[DownPort]) -> Result<DownPort, RuleFault>> AskedDown for ByDown<F> {
-    ghost may = { λ f args ins. (a : Bor (List ℕ)) (i : Bor (List DownPort)) → a.now ≡ args → i.now ≡ ins → F.pre f.call a i };
+    ghost may = { λ f args ins. (a : Bor (List ℕ)) (i : Bor (List DownPort)) → a.now ≡ args → i.now ≡ ins
+        → F.pre f.call a i };
 
-    ghost gives = { λ f args ins r. (a : Bor (List ℕ)) × (i : Bor (List DownPort)) × (a.now ≡ args) × (i.now ≡ ins) × F.post f.call a i r };
+    ghost gives = { λ f args ins r. (a : Bor (List ℕ)) × (i : Bor (List DownPort)) × (a.now ≡ args) ×
+        (i.now ≡ ins) × F.post f.call a i r };
 
     fn ask_down(&self, args: &Args, ins: &[DownPort]) -> Result<DownPort, RuleFault> {
         (self.call)(args, ins)
@@ -54,9 +56,11 @@ pub struct ByUp<F> {
 }
 
 impl<F: Fn(&Args, &[UpPort]) -> Result<UpPort, RuleFault>> AskedUp for ByUp<F> {
-    ghost may = { λ f args outs. (a : Bor (List ℕ)) (o : Bor (List UpPort)) → a.now ≡ args → o.now ≡ outs → F.pre f.call a o };
+    ghost may = { λ f args outs. (a : Bor (List ℕ)) (o : Bor (List UpPort)) → a.now ≡ args → o.now ≡ outs
+        → F.pre f.call a o };
 
-    ghost gives = { λ f args outs r. (a : Bor (List ℕ)) × (o : Bor (List UpPort)) × (a.now ≡ args) × (o.now ≡ outs) × F.post f.call a o r };
+    ghost gives = { λ f args outs r. (a : Bor (List ℕ)) × (o : Bor (List UpPort)) × (a.now ≡ args) ×
+        (o.now ≡ outs) × F.post f.call a o r };
 
     fn ask_up(&self, args: &Args, outs: &[UpPort]) -> Result<UpPort, RuleFault> {
         (self.call)(args, outs)

@@ -29,7 +29,8 @@ impl<S: Says, D: AskedDown, U: AskedUp> Model for Stored<S, D, U> {
 
     ghost view = { λ s. tt };
 
-    ghost invariant = { λ s. IsStated (D.may s.by_down) (D.gives s.by_down) S.down × IsStated (U.may s.by_up) (U.gives s.by_up) S.up };
+    ghost invariant = { λ s. IsStated (D.may s.by_down) (D.gives s.by_down) S.down × IsStated (U.may
+        s.by_up) (U.gives s.by_up) S.up };
 }
 
 impl<S: Says, D: AskedDown, U: AskedUp> Stored<S, D, U> {

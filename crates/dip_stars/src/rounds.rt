@@ -37,8 +37,9 @@ pub fn decider(bind: &BindEntry) -> Option<u32>
 }
 
 fn first_count(rules: &Rules, nodes: &[NodeEntry], bind: &BindEntry) -> Counted
-    ensures { result ≡ spec.first_count (map (λ e. stated_rule e.kind e.template ((⟦<dyn Rule as Rule>⟧ e.rule.vtable).says_down
-        e.rule.value) ((⟦<dyn Rule as Rule>⟧ e.rule.vtable).says_up e.rule.value)) rules.now.entries) nodes.now bind.now }
+    ensures { result ≡ spec.first_count (map (λ e. stated_rule e.kind e.template ((⟦<dyn Rule as Rule>⟧
+        e.rule.vtable).says_down e.rule.value) ((⟦<dyn Rule as Rule>⟧ e.rule.vtable).says_up
+        e.rule.value)) rules.now.entries) nodes.now bind.now }
 {
     let number = match decider(bind) {
         None => Some(1),
@@ -62,8 +63,9 @@ fn first_counts(
     nodes: &[NodeEntry],
     binds: &[BindEntry],
 ) -> Result<Counts, Memory>
-    ensures { IfOk result (λ counts. counts ≡ spec.first_counts (map (λ e. stated_rule e.kind e.template ((⟦<dyn Rule as Rule>⟧ e.rule.vtable).says_down
-        e.rule.value) ((⟦<dyn Rule as Rule>⟧ e.rule.vtable).says_up e.rule.value)) rules.now.entries) nodes.now binds.now) }
+    ensures { IfOk result (λ counts. counts ≡ spec.first_counts (map (λ e. stated_rule e.kind e.template
+        ((⟦<dyn Rule as Rule>⟧ e.rule.vtable).says_down e.rule.value) ((⟦<dyn Rule as Rule>⟧
+        e.rule.vtable).says_up e.rule.value)) rules.now.entries) nodes.now binds.now) }
 {
     let mut counts = Items::new(alloc);
     for bind in binds {
@@ -91,7 +93,8 @@ pub fn known_number(count: &Counted) -> i64
     count.number.unwrap_or(0)
 }
 
-// No sum of a design comes near 2^63, since each node decides one bind at most; one that did would be taken as want of
+// No sum of a design comes near 2^63, since each node decides one bind at most; one that did would be
+// taken as want of
 // memory.
 fn plus(a: i64, b: i64) -> Result<i64, Memory>
     ensures { IfOk result (λ sum. sum ≡ a +ℤ b) }
@@ -254,8 +257,9 @@ pub fn counts_of(
     nodes: &[NodeEntry],
     binds: &[BindEntry],
 ) -> Result<Counts, Memory>
-    ensures value { IfOk result (λ counts. counts ≡ spec.counts_of (map (λ e. stated_rule e.kind e.template ((⟦<dyn Rule as Rule>⟧ e.rule.vtable).says_down
-        e.rule.value) ((⟦<dyn Rule as Rule>⟧ e.rule.vtable).says_up e.rule.value)) rules.now.entries) nodes.now binds.now) }
+    ensures value { IfOk result (λ counts. counts ≡ spec.counts_of (map (λ e. stated_rule e.kind
+        e.template ((⟦<dyn Rule as Rule>⟧ e.rule.vtable).says_down e.rule.value) ((⟦<dyn Rule as Rule>⟧
+        e.rule.vtable).says_up e.rule.value)) rules.now.entries) nodes.now binds.now) }
     ensures long { IfOk result (λ counts. length counts ≡ length binds.now) }
 {
     let first = first_counts(alloc, rules, nodes, binds)?;

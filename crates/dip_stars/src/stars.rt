@@ -84,8 +84,9 @@ fn kind_is_unfilled(
     node: u32,
     kind: &NodeKind,
 ) -> Result<bool, Memory>
-    ensures { IfOk result (λ fails. fails ≡ spec.kind_is_unfilled (map (λ e. stated_rule e.kind e.template ((⟦<dyn Rule as Rule>⟧ e.rule.vtable).says_down
-        e.rule.value) ((⟦<dyn Rule as Rule>⟧ e.rule.vtable).says_up e.rule.value)) rules.now.entries) nodes.now counts.now node kind.now) }
+    ensures { IfOk result (λ fails. fails ≡ spec.kind_is_unfilled (map (λ e. stated_rule e.kind e.template
+        ((⟦<dyn Rule as Rule>⟧ e.rule.vtable).says_down e.rule.value) ((⟦<dyn Rule as Rule>⟧
+        e.rule.vtable).says_up e.rule.value)) rules.now.entries) nodes.now counts.now node kind.now) }
 {
     match kind {
         NodeKind::Source { ports, .. } => Ok(sum_from(node, counts)? != *ports as i64),
@@ -106,8 +107,9 @@ fn node_is_unfilled(
     node: u32,
     entry: &NodeEntry,
 ) -> Result<bool, Memory>
-    ensures { IfOk result (λ fails. fails ≡ spec.node_is_unfilled (map (λ e. stated_rule e.kind e.template ((⟦<dyn Rule as Rule>⟧ e.rule.vtable).says_down
-        e.rule.value) ((⟦<dyn Rule as Rule>⟧ e.rule.vtable).says_up e.rule.value)) rules.now.entries) nodes.now counts.now node entry.now) }
+    ensures { IfOk result (λ fails. fails ≡ spec.node_is_unfilled (map (λ e. stated_rule e.kind e.template
+        ((⟦<dyn Rule as Rule>⟧ e.rule.vtable).says_down e.rule.value) ((⟦<dyn Rule as Rule>⟧
+        e.rule.vtable).says_up e.rule.value)) rules.now.entries) nodes.now counts.now node entry.now) }
 {
     if is_negative_at(node, counts) {
         Ok(true)
@@ -118,8 +120,9 @@ fn node_is_unfilled(
 
 fn unfilled(rules: &Rules, nodes: &[NodeEntry], counts: &[Counted]) -> Result<Option<u32>, Memory>
     requires { length nodes.now < 2 ^ 32 }
-    ensures { IfOk result (λ node. node ≡ first (spec.unfilled (map (λ e. stated_rule e.kind e.template ((⟦<dyn Rule as Rule>⟧ e.rule.vtable).says_down
-        e.rule.value) ((⟦<dyn Rule as Rule>⟧ e.rule.vtable).says_up e.rule.value)) rules.now.entries) nodes.now counts.now)) }
+    ensures { IfOk result (λ node. node ≡ first (spec.unfilled (map (λ e. stated_rule e.kind e.template
+        ((⟦<dyn Rule as Rule>⟧ e.rule.vtable).says_down e.rule.value) ((⟦<dyn Rule as Rule>⟧
+        e.rule.vtable).says_up e.rule.value)) rules.now.entries) nodes.now counts.now)) }
 {
     for (node, entry) in nodes.iter().enumerate() {
         if node_is_unfilled(rules, nodes, counts, node as u32, entry)? {
@@ -142,10 +145,12 @@ fn all_known(counts: &[Counted]) -> Result<(), StarFault>
 
 fn all_filled(rules: &Rules, nodes: &[NodeEntry], counts: &[Counted]) -> Result<(), StarFault>
     requires { length nodes.now < 2 ^ 32 }
-    ensures passes { OnOk result (first (spec.unfilled (map (λ e. stated_rule e.kind e.template ((⟦<dyn Rule as Rule>⟧ e.rule.vtable).says_down
-        e.rule.value) ((⟦<dyn Rule as Rule>⟧ e.rule.vtable).says_up e.rule.value)) rules.now.entries) nodes.now counts.now) ≡ None) }
-    ensures err { IfErr result (spec.IsUnfilled (map (λ e. stated_rule e.kind e.template ((⟦<dyn Rule as Rule>⟧ e.rule.vtable).says_down
-        e.rule.value) ((⟦<dyn Rule as Rule>⟧ e.rule.vtable).says_up e.rule.value)) rules.now.entries) nodes.now counts.now) }
+    ensures passes { OnOk result (first (spec.unfilled (map (λ e. stated_rule e.kind e.template
+        ((⟦<dyn Rule as Rule>⟧ e.rule.vtable).says_down e.rule.value) ((⟦<dyn Rule as Rule>⟧
+        e.rule.vtable).says_up e.rule.value)) rules.now.entries) nodes.now counts.now) ≡ None) }
+    ensures err { IfErr result (spec.IsUnfilled (map (λ e. stated_rule e.kind e.template
+        ((⟦<dyn Rule as Rule>⟧ e.rule.vtable).says_down e.rule.value) ((⟦<dyn Rule as Rule>⟧
+        e.rule.vtable).says_up e.rule.value)) rules.now.entries) nodes.now counts.now) }
 {
     match unfilled(rules, nodes, counts)? {
         Some(node) => Err(StarFault::Arity { node }),
@@ -168,21 +173,27 @@ fn few_edges(counts: &[Counted]) -> Result<(), StarFault>
 /// The edges of a design, in the order of its binds, each bind as often as its number says.
 ///
 /// `StarFault::StarsWait` names the least bind that isn't known after as many rounds as there are binds. Else
-/// `StarFault::Arity` names the least node that decides a negative number or whose binds don't sum up, and else
+/// `StarFault::Arity` names the least node that decides a negative number or whose binds don't sum up,
+/// and else
 /// `StarFault::TooManyEdges` says how many edges there are where these are more than 1,024.
 #[tactic(auto, using(crate::proofs::Few::few_edges))]
 pub fn resolve(alloc: Global, design: &Design, rules: &Rules) -> Result<Edges, StarFault>
     requires nodes { length design.now.nodes < 2 ^ 32 }
     requires binds { length design.now.binds < 2 ^ 32 }
-    ensures ok { IfOk result (λ edges. edges ≡ spec.edges_of (spec.design_counts (map (λ e. stated_rule e.kind e.template ((⟦<dyn Rule as Rule>⟧ e.rule.vtable).says_down
-        e.rule.value) ((⟦<dyn Rule as Rule>⟧ e.rule.vtable).says_up e.rule.value)) rules.now.entries) design.now)) }
-    ensures passes { IfOk result (λ _. spec.AreResolved (map (λ e. stated_rule e.kind e.template ((⟦<dyn Rule as Rule>⟧ e.rule.vtable).says_down
-        e.rule.value) ((⟦<dyn Rule as Rule>⟧ e.rule.vtable).says_up e.rule.value)) rules.now.entries) design.now.nodes (spec.design_counts (map (λ e. stated_rule e.kind e.template ((⟦<dyn Rule as Rule>⟧ e.rule.vtable).says_down
-        e.rule.value) ((⟦<dyn Rule as Rule>⟧ e.rule.vtable).says_up e.rule.value)) rules.now.entries) design.now)) }
+    ensures ok { IfOk result (λ edges. edges ≡ spec.edges_of (spec.design_counts (map (λ e. stated_rule
+        e.kind e.template ((⟦<dyn Rule as Rule>⟧ e.rule.vtable).says_down e.rule.value)
+        ((⟦<dyn Rule as Rule>⟧ e.rule.vtable).says_up e.rule.value)) rules.now.entries) design.now)) }
+    ensures passes { IfOk result (λ _. spec.AreResolved (map (λ e. stated_rule e.kind e.template
+        ((⟦<dyn Rule as Rule>⟧ e.rule.vtable).says_down e.rule.value) ((⟦<dyn Rule as Rule>⟧
+        e.rule.vtable).says_up e.rule.value)) rules.now.entries) design.now.nodes (spec.design_counts (map
+        (λ e. stated_rule e.kind e.template ((⟦<dyn Rule as Rule>⟧ e.rule.vtable).says_down e.rule.value)
+        ((⟦<dyn Rule as Rule>⟧ e.rule.vtable).says_up e.rule.value)) rules.now.entries) design.now)) }
     ensures few { IfOk result (λ edges. length edges ≤ 1024) }
-    ensures err { IfErr result (spec.IsStarFault (map (λ e. stated_rule e.kind e.template ((⟦<dyn Rule as Rule>⟧ e.rule.vtable).says_down
-        e.rule.value) ((⟦<dyn Rule as Rule>⟧ e.rule.vtable).says_up e.rule.value)) rules.now.entries) design.now.nodes (spec.design_counts (map (λ e. stated_rule e.kind e.template ((⟦<dyn Rule as Rule>⟧ e.rule.vtable).says_down
-        e.rule.value) ((⟦<dyn Rule as Rule>⟧ e.rule.vtable).says_up e.rule.value)) rules.now.entries) design.now)) }
+    ensures err { IfErr result (spec.IsStarFault (map (λ e. stated_rule e.kind e.template
+        ((⟦<dyn Rule as Rule>⟧ e.rule.vtable).says_down e.rule.value) ((⟦<dyn Rule as Rule>⟧
+        e.rule.vtable).says_up e.rule.value)) rules.now.entries) design.now.nodes (spec.design_counts (map
+        (λ e. stated_rule e.kind e.template ((⟦<dyn Rule as Rule>⟧ e.rule.vtable).says_down e.rule.value)
+        ((⟦<dyn Rule as Rule>⟧ e.rule.vtable).says_up e.rule.value)) rules.now.entries) design.now)) }
 {
     let nodes = design.nodes.as_slice();
     let counts = counts_of(alloc, rules, nodes, design.binds.as_slice())?;

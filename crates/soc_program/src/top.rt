@@ -53,12 +53,12 @@ fn map_of(alloc: Global, design: &Design, rules: &Rules) -> Result<Bytes, Fault>
     ensures passes { IfOk result (λ _. first_failing (design_checks (map (λ e. stated_rule e.kind e.template
         ((⟦<dyn Rule as Rule>⟧ e.rule.vtable).says_down e.rule.value)
         ((⟦<dyn Rule as Rule>⟧ e.rule.vtable).says_up e.rule.value)) rules.now.entries) design.now) ≡ None) }
-    ensures map { IfOk result (λ text. text ≡ map_text design.now (accepted_of (map (λ e. stated_rule e.kind e.template
-        ((⟦<dyn Rule as Rule>⟧ e.rule.vtable).says_down e.rule.value)
+    ensures map { IfOk result (λ text. text ≡ map_text design.now (accepted_of (map (λ e. stated_rule
+        e.kind e.template ((⟦<dyn Rule as Rule>⟧ e.rule.vtable).says_down e.rule.value)
         ((⟦<dyn Rule as Rule>⟧ e.rule.vtable).says_up e.rule.value)) rules.now.entries) design.now)) }
-    ensures err { IfErr result (IsFaultOf (first_failing (design_checks (map (λ e. stated_rule e.kind e.template
-        ((⟦<dyn Rule as Rule>⟧ e.rule.vtable).says_down e.rule.value)
-        ((⟦<dyn Rule as Rule>⟧ e.rule.vtable).says_up e.rule.value)) rules.now.entries) design.now))) }
+    ensures err { IfErr result (IsFaultOf (first_failing (design_checks (map (λ e. stated_rule e.kind
+        e.template ((⟦<dyn Rule as Rule>⟧ e.rule.vtable).says_down e.rule.value) ((⟦<dyn Rule as Rule>⟧
+        e.rule.vtable).says_up e.rule.value)) rules.now.entries) design.now))) }
 {
     let accepted = check_design(alloc, design, rules)?;
     let text = map_text(alloc, design, &accepted)?;
@@ -83,9 +83,9 @@ fn map_design(alloc: Global, bytes: &[u8], rules: &Rules) -> Result<Bytes, Fault
 
 // Runs on the bytes of a design file.
 fn run_on<O: Out>(alloc: Global, bytes: &[u8], rules: &Rules, out: &mut O) -> Status
-    ensures { RunsOn (map (λ e. stated_rule e.kind e.template
-        ((⟦<dyn Rule as Rule>⟧ e.rule.vtable).says_down e.rule.value)
-        ((⟦<dyn Rule as Rule>⟧ e.rule.vtable).says_up e.rule.value)) rules.now.entries) bytes.now result (O.seen out.old) (O.seen out.new) }
+    ensures { RunsOn (map (λ e. stated_rule e.kind e.template ((⟦<dyn Rule as Rule>⟧
+        e.rule.vtable).says_down e.rule.value) ((⟦<dyn Rule as Rule>⟧ e.rule.vtable).says_up
+        e.rule.value)) rules.now.entries) bytes.now result (O.seen out.old) (O.seen out.new) }
 {
     match map_design(alloc, bytes, rules) {
         Ok(text) => print_text(text.as_slice(), Status::Done, out),
@@ -122,9 +122,9 @@ fn run<F: Files, O: Out>(
     rules: &Rules,
 ) -> Status
     ensures files { SameContent (F.seen files.old) (F.seen files.new) }
-    ensures answered { Answered (map (λ e. stated_rule e.kind e.template
-        ((⟦<dyn Rule as Rule>⟧ e.rule.vtable).says_down e.rule.value)
-        ((⟦<dyn Rule as Rule>⟧ e.rule.vtable).says_up e.rule.value)) rules.now.entries) (words_of words.now) (world (F.seen files.old) (O.seen out.old))
+    ensures answered { Answered (map (λ e. stated_rule e.kind e.template ((⟦<dyn Rule as Rule>⟧
+        e.rule.vtable).says_down e.rule.value) ((⟦<dyn Rule as Rule>⟧ e.rule.vtable).says_up
+        e.rule.value)) rules.now.entries) (words_of words.now) (world (F.seen files.old) (O.seen out.old))
         (world (F.seen files.new) (O.seen out.new)) result }
 {
     let Some(name) = design_of(words) else {
@@ -149,13 +149,13 @@ pub fn soc<F: Files, O: Out>(
     rules: &Rules,
 ) -> Status
     ensures files { SameContent (F.seen files.old) (F.seen files.new) }
-    ensures answered { Answered (map (λ e. stated_rule e.kind e.template
-        ((⟦<dyn Rule as Rule>⟧ e.rule.vtable).says_down e.rule.value)
-        ((⟦<dyn Rule as Rule>⟧ e.rule.vtable).says_up e.rule.value)) rules.now.entries) (words_of words.now) (world (F.seen files.old) (O.seen out.old))
+    ensures answered { Answered (map (λ e. stated_rule e.kind e.template ((⟦<dyn Rule as Rule>⟧
+        e.rule.vtable).says_down e.rule.value) ((⟦<dyn Rule as Rule>⟧ e.rule.vtable).says_up
+        e.rule.value)) rules.now.entries) (words_of words.now) (world (F.seen files.old) (O.seen out.old))
         (world (F.seen files.new) (O.seen out.new)) result }
-    ensures completed { Completed (map (λ e. stated_rule e.kind e.template
-        ((⟦<dyn Rule as Rule>⟧ e.rule.vtable).says_down e.rule.value)
-        ((⟦<dyn Rule as Rule>⟧ e.rule.vtable).says_up e.rule.value)) rules.now.entries) (words_of words.now) (world (F.seen files.old) (O.seen out.old))
+    ensures completed { Completed (map (λ e. stated_rule e.kind e.template ((⟦<dyn Rule as Rule>⟧
+        e.rule.vtable).says_down e.rule.value) ((⟦<dyn Rule as Rule>⟧ e.rule.vtable).says_up
+        e.rule.value)) rules.now.entries) (words_of words.now) (world (F.seen files.old) (O.seen out.old))
         (world (F.seen files.new) (O.seen out.new)) result }
 {
     run(alloc, words, files, out, rules)
