@@ -1,4 +1,4 @@
 pub mod Disjointness
 pub mod Stars
 pub mod Refusals
-pub mod Accepting
+pub mod Solved

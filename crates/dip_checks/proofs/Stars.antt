@@ -50,3 +50,5 @@ all_resolved rules design r =
     ap (λ o. option_or (found 8 o) (first_failing (check 9 (unfilled rules design.nodes (design_counts rules design)) ∷ check 10 (excess (design_counts rules design)) ∷ []))) r.known
     ∙ ap (λ o. option_or (found 9 o) (first_failing (check 10 (excess (design_counts rules design)) ∷ []))) r.filled
     ∙ ap (λ o. option_or (found 10 o) None) r.few
+
+pub ruleset failures = (bind_waits, node_fails, too_many)

@@ -201,5 +201,5 @@ unfoldable pub design_checks : List StatedRule → Design → List Check
 design_checks rules design = graph_checks rules design ++ port_checks rules design (edges_in rules design)
 
 -- what a design has where its checks pass
-unfoldable pub accepted_of : List StatedRule → Design → Accepted
+abbrev pub accepted_of : List StatedRule → Design → Accepted
 accepted_of rules design = record { edges = edges_in rules design; solution = solution_of rules design (edges_in rules design) }

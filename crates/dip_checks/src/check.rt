@@ -73,7 +73,7 @@ fn solved(alloc: Global, rules: &Rules, design: &Design, edges: &[Edge]) -> Resu
 /// `Fault::Check` names the first of the checks 5 to 18 that fails, with the number of the bind, the node
 /// or the edge
 /// at which it does, or how many edges there are, or the weight. After `Fault::Memory` nothing is known.
-#[tactic(auto, using(crate::proofs::Accepting::only_solution), unfolding(crate::specs::Checks::design_checks, crate::specs::Checks::accepted_of))]
+#[tactic(auto, using(crate::proofs::Solved::only_solution), unfolding(crate::specs::Checks::design_checks))]
 pub fn check_design(alloc: Global, design: &Design, rules: &Rules) -> Result<Accepted, Fault>
     requires nodes { length design.now.nodes ≤ 256 }
     requires binds { length design.now.binds ≤ 1024 }

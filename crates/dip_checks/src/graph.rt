@@ -96,7 +96,7 @@ fn binds_make_no_cycle(alloc: Global, design: &Design) -> Result<(), Fault>
     }
 }
 
-#[tactic(auto, using(crate::proofs::Stars::bind_waits, crate::proofs::Stars::node_fails, crate::proofs::Stars::too_many))]
+#[tactic(auto, using(crate::proofs::Stars::failures))]
 fn star_fault(design: &Design, rules: &Rules, fault: StarFault) -> Fault
     requires { IsStarFault (map (λ e. stated_rule e.kind e.template ((⟦<dyn Rule as Rule>⟧
         e.rule.vtable).says_down e.rule.value) ((⟦<dyn Rule as Rule>⟧ e.rule.vtable).says_up
