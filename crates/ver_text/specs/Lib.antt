@@ -1,2 +1,4 @@
+pub mod Kinds
+pub mod Lexemes
 pub mod Numerals
 pub mod Spelling
