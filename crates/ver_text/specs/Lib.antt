@@ -1,4 +1,6 @@
+pub mod Grammar
 pub mod Kinds
 pub mod Lexemes
 pub mod Numerals
 pub mod Spelling
+pub mod Tokens
