@@ -3,6 +3,7 @@
 
 mod grammar;
 mod kind;
+mod laws;
 mod printer;
 mod scan;
 mod syntax;
@@ -11,6 +12,7 @@ mod writing;
 
 pub use grammar::State;
 pub use kind::{Kind, Rule};
+pub use laws::syntax_law;
 pub use printer::{Bytes, print};
 pub use scan::Lexeme;
 pub use syntax::refused_place;
