@@ -1,4 +1,7 @@
+pub mod Judgements
 pub mod Lists
+pub mod Names
 pub mod Numerals
-pub mod Scans
 pub mod Refusals
+pub mod Scans
+pub mod Steps

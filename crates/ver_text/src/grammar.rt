@@ -36,7 +36,8 @@ fn rule_of(kind: Kind) -> Rule
     }
 }
 
-fn next_rule(kind: Kind) -> Rule
+/// What may come behind a construct with this first token.
+pub fn next_rule(kind: Kind) -> Rule
     ensures { result ≡ spec.next_rule kind }
 {
     match kind {

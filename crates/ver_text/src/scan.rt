@@ -58,7 +58,8 @@ fn word_length(text: &[u8]) -> usize
     count
 }
 
-fn digits_length(text: &[u8]) -> usize
+/// How many decimal digits a text has at its front.
+pub fn digits_length(text: &[u8]) -> usize
     ensures length { result ≡ prefix_len spec.is_digit text.now }
     ensures within { result ≤ length text.now }
 {

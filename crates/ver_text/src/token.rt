@@ -26,7 +26,7 @@ pub fn lexeme_at(text: &[u8], at: usize) -> Lexeme
 }
 
 /// The bytes from a place on.
-fn from_place(text: &[u8], place: usize) -> &[u8]
+pub fn from_place(text: &[u8], place: usize) -> &[u8]
     ensures { result.now ≡ drop place text.now }
 {
     text.get(place..).unwrap_or(&[])
