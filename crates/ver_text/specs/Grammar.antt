@@ -52,7 +52,23 @@ rule_of Question = AfterName
 rule_of OpenBracket = AfterName
 rule_of _ = Inner
 
--- the tokens that follow its first
+-- the tokens that follow the first of an expression
+abbrev pub behind_value : Kind → List Kind
+behind_value Literal = Semicolon ∷ []
+behind_value Tilde = Name ∷ Semicolon ∷ []
+behind_value OpenBrace = Name ∷ Comma ∷ Name ∷ CloseBrace ∷ Semicolon ∷ []
+behind_value And = Name ∷ Semicolon ∷ []
+behind_value Or = Name ∷ Semicolon ∷ []
+behind_value Xor = Name ∷ Semicolon ∷ []
+behind_value Plus = Name ∷ Semicolon ∷ []
+behind_value Minus = Name ∷ Semicolon ∷ []
+behind_value Equal = Name ∷ Semicolon ∷ []
+behind_value Less = Name ∷ Semicolon ∷ []
+behind_value Question = Name ∷ Colon ∷ Name ∷ Semicolon ∷ []
+behind_value OpenBracket = Number ∷ Colon ∷ Number ∷ CloseBracket ∷ Semicolon ∷ []
+behind_value _ = []
+
+-- the tokens that follow the first of a construct
 abbrev pub behind : Kind → List Kind
 behind Module = Name ∷ OpenParen ∷ []
 behind Input = OpenBracket ∷ Number ∷ Colon ∷ Number ∷ CloseBracket ∷ Name ∷ []
@@ -62,19 +78,7 @@ behind Reg = OpenBracket ∷ Number ∷ Colon ∷ Number ∷ CloseBracket ∷ Na
 behind Wire = OpenBracket ∷ Number ∷ Colon ∷ Number ∷ CloseBracket ∷ Name ∷ Semicolon ∷ []
 behind Assign = Name ∷ Becomes ∷ []
 behind Always = At ∷ OpenParen ∷ Posedge ∷ Name ∷ CloseParen ∷ Name ∷ LessEqual ∷ Name ∷ Semicolon ∷ []
-behind Literal = Semicolon ∷ []
-behind Tilde = Name ∷ Semicolon ∷ []
-behind OpenBrace = Name ∷ Comma ∷ Name ∷ CloseBrace ∷ Semicolon ∷ []
-behind And = Name ∷ Semicolon ∷ []
-behind Or = Name ∷ Semicolon ∷ []
-behind Xor = Name ∷ Semicolon ∷ []
-behind Plus = Name ∷ Semicolon ∷ []
-behind Minus = Name ∷ Semicolon ∷ []
-behind Equal = Name ∷ Semicolon ∷ []
-behind Less = Name ∷ Semicolon ∷ []
-behind Question = Name ∷ Colon ∷ Name ∷ Semicolon ∷ []
-behind OpenBracket = Number ∷ Colon ∷ Number ∷ CloseBracket ∷ Semicolon ∷ []
-behind _ = []
+behind kind = behind_value kind
 
 -- what may come behind it; before the first token, the whole text
 abbrev pub next_rule : Kind → Rule

@@ -8,34 +8,84 @@ use Rattle.net_cells.specs.declared.netlist.CellOp.{CellOp}
 use Rattle.net_cells.specs.declared.netlist.CellOp.TheVariants.{Const, Not, And, Or, Xor, Add, Sub, Eq, Less, Mux, Concat, Select}
 use Rattle.net_cells.specs.declared.netlist.Netlist.{Netlist}
 use Rattle.net_cells.specs.Rules.{widths, sources}
+use Rattle.ver_text.specs.declared.kind.Kind.{Kind}
+use Rattle.ver_text.specs.declared.kind.Kind.TheVariants as kind
 use Rattle.ver_text.specs.Numerals.{literal}
+
+-- keywords and other tokens that aren't names, numbers or literals
+abbrev pub written_as : Kind → List ℕ
+written_as kind.Module = codes "module"
+written_as kind.Input = codes "input"
+written_as kind.Output = codes "output"
+written_as kind.Reg = codes "reg"
+written_as kind.Wire = codes "wire"
+written_as kind.Assign = codes "assign"
+written_as kind.Always = codes "always"
+written_as kind.Posedge = codes "posedge"
+written_as kind.Endmodule = codes "endmodule"
+written_as kind.OpenParen = codes "("
+written_as kind.CloseParen = codes ")"
+written_as kind.OpenBracket = codes "["
+written_as kind.CloseBracket = codes "]"
+written_as kind.OpenBrace = codes "{"
+written_as kind.CloseBrace = codes "}"
+written_as kind.Comma = codes ","
+written_as kind.Semicolon = codes ";"
+written_as kind.Colon = codes ":"
+written_as kind.Becomes = codes "="
+written_as kind.Question = codes "?"
+written_as kind.At = codes "@"
+written_as kind.Tilde = codes "~"
+written_as kind.And = codes "&"
+written_as kind.Or = codes "|"
+written_as kind.Xor = codes "^"
+written_as kind.Plus = codes "+"
+written_as kind.Minus = codes "-"
+written_as kind.Equal = codes "=="
+written_as kind.Less = codes "<"
+written_as kind.LessEqual = codes "<="
+written_as _ = []
 
 -- a token, and what stands between it and the next
 pub record Piece : Type 0 where
+  pub kind : Kind
   pub word : List ℕ
   pub gap : List ℕ
 
 -- nothing, a space or the end of the line behind it
-abbrev pub tight : List ℕ → Piece
-tight word = record { word = word; gap = [] }
+abbrev pub tight : Kind → Piece
+tight kind = record { kind = kind; word = written_as kind; gap = [] }
 
-abbrev pub apart : List ℕ → Piece
-apart word = record { word = word; gap = codes " " }
+abbrev pub apart : Kind → Piece
+apart kind = record { kind = kind; word = written_as kind; gap = codes " " }
 
-abbrev pub last : List ℕ → Piece
-last word = record { word = word; gap = codes "\n" }
+abbrev pub last : Kind → Piece
+last kind = record { kind = kind; word = written_as kind; gap = codes "\n" }
+
+-- a name, a number or a literal, with nothing or a space behind it
+abbrev pub tight_word : Kind → List ℕ → Piece
+tight_word kind word = record { kind = kind; word = word; gap = [] }
+
+abbrev pub apart_name : List ℕ → Piece
+apart_name word = record { kind = kind.Name; word = word; gap = codes " " }
+
+abbrev pub tight_name : List ℕ → Piece
+tight_name word = tight_word kind.Name word
+
+abbrev pub tight_number : ℕ → Piece
+tight_number number = tight_word kind.Number (decimal number)
 
 -- the range of so many bits
 abbrev pub range : ℕ → List Piece
-range width = tight (codes "[") ∷ tight (decimal (width - 1)) ∷ tight (codes ":") ∷ tight (codes "0") ∷ apart (codes "]") ∷ []
+range width = tight kind.OpenBracket ∷ tight_number (width - 1) ∷ tight kind.Colon ∷ tight_word kind.Number (codes "0") ∷ apart kind.CloseBracket ∷ []
 
 -- a port: its direction, width and name
-abbrev pub port : List ℕ → ℕ → List ℕ → List Piece
-port direction width name = apart direction ∷ range width ++ tight name ∷ []
+abbrev pub port : Kind → ℕ → List ℕ → List Piece
+port direction width name = apart direction ∷ range width ++ tight_name name ∷ []
 
 -- a register or the net of a cell: what it is, its width and name
-abbrev pub net : List ℕ → ℕ → List ℕ → List Piece
-net what width name = apart what ∷ range width ++ tight name ∷ last (codes ";") ∷ []
+abbrev pub net : Kind → ℕ → List ℕ → List Piece
+net what width name = apart what ∷ range width ++ tight_name name ∷ last kind.Semicolon ∷ []
 
 abbrev pub register_name : ℕ → List ℕ
 register_name number = codes "r" ++ decimal number
@@ -56,55 +106,55 @@ abbrev pub net_name : Netlist → ℕ → List ℕ
 net_name n number = name_in (slice_get n.inputs number) (sources n) number
 
 -- an operator between two nets
-abbrev pub between : List ℕ → List ℕ → List ℕ → List Piece
-between x operator y = apart x ∷ apart operator ∷ tight y ∷ []
+abbrev pub between : List ℕ → Kind → List ℕ → List Piece
+between x operator y = apart_name x ∷ apart operator ∷ tight_name y ∷ []
 
 -- the expression of a cell of so many bits
 abbrev pub expression : Netlist → ℕ → CellOp → List Piece
-expression n width (Const value) = tight (literal width value) ∷ []
-expression n width (Not x) = tight (codes "~") ∷ tight (net_name n x) ∷ []
-expression n width (And x y) = between (net_name n x) (codes "&") (net_name n y)
-expression n width (Or x y) = between (net_name n x) (codes "|") (net_name n y)
-expression n width (Xor x y) = between (net_name n x) (codes "^") (net_name n y)
-expression n width (Add x y) = between (net_name n x) (codes "+") (net_name n y)
-expression n width (Sub x y) = between (net_name n x) (codes "-") (net_name n y)
-expression n width (Eq x y) = between (net_name n x) (codes "==") (net_name n y)
-expression n width (Less x y) = between (net_name n x) (codes "<") (net_name n y)
-expression n width (Mux c x y) = apart (net_name n c) ∷ apart (codes "?") ∷ apart (net_name n x) ∷ apart (codes ":") ∷ tight (net_name n y) ∷ []
-expression n width (Concat x y) = tight (codes "{") ∷ tight (net_name n x) ∷ apart (codes ",") ∷ tight (net_name n y) ∷ tight (codes "}") ∷ []
+expression n width (Const value) = tight_word kind.Literal (literal width value) ∷ []
+expression n width (Not x) = tight kind.Tilde ∷ tight_name (net_name n x) ∷ []
+expression n width (And x y) = between (net_name n x) kind.And (net_name n y)
+expression n width (Or x y) = between (net_name n x) kind.Or (net_name n y)
+expression n width (Xor x y) = between (net_name n x) kind.Xor (net_name n y)
+expression n width (Add x y) = between (net_name n x) kind.Plus (net_name n y)
+expression n width (Sub x y) = between (net_name n x) kind.Minus (net_name n y)
+expression n width (Eq x y) = between (net_name n x) kind.Equal (net_name n y)
+expression n width (Less x y) = between (net_name n x) kind.Less (net_name n y)
+expression n width (Mux c x y) = apart_name (net_name n c) ∷ apart kind.Question ∷ apart_name (net_name n x) ∷ apart kind.Colon ∷ tight_name (net_name n y) ∷ []
+expression n width (Concat x y) = tight kind.OpenBrace ∷ tight_name (net_name n x) ∷ apart kind.Comma ∷ tight_name (net_name n y) ∷ tight kind.CloseBrace ∷ []
 expression n width (Select x hi lo) =
-    tight (net_name n x) ∷ tight (codes "[") ∷ tight (decimal hi) ∷ tight (codes ":") ∷ tight (decimal lo) ∷ tight (codes "]") ∷ []
+    tight_name (net_name n x) ∷ tight kind.OpenBracket ∷ tight_number hi ∷ tight kind.Colon ∷ tight_number lo ∷ tight kind.CloseBracket ∷ []
 
 -- what a net is assigned
 abbrev pub assignment : List ℕ → List Piece → List Piece
-assignment name value = apart (codes "assign") ∷ apart name ∷ apart (codes "=") ∷ value ++ last (codes ";") ∷ []
+assignment name value = apart kind.Assign ∷ apart_name name ∷ apart kind.Becomes ∷ value ++ last kind.Semicolon ∷ []
 
 -- a register takes the value of a net at each rising edge of the clock
 unfoldable pub update : List ℕ → List ℕ → List Piece
 update register next =
-    apart (codes "always") ∷ tight (codes "@") ∷ tight (codes "(") ∷ apart (codes "posedge") ∷ tight (codes "clock") ∷ apart (codes ")")
-    ∷ apart register ∷ apart (codes "<=") ∷ tight next ∷ last (codes ";") ∷ []
+    apart kind.Always ∷ tight kind.At ∷ tight kind.OpenParen ∷ apart kind.Posedge ∷ tight_name (codes "clock") ∷ apart kind.CloseParen
+    ∷ apart_name register ∷ apart kind.LessEqual ∷ tight_name next ∷ last kind.Semicolon ∷ []
 
 -- ---- the parts of a netlist's text: each list of them in the order of ports, nets or outputs
 
 abbrev pub heading : List ℕ → List Piece
-heading name = apart (codes "module") ∷ tight name ∷ tight (codes "(") ∷ port (codes "input") 1 (codes "clock")
+heading name = apart kind.Module ∷ tight_name name ∷ tight kind.OpenParen ∷ port kind.Input 1 (codes "clock")
 
 abbrev pub inputs : List Port → List (List Piece)
 inputs [] = []
-inputs (p ∷ ps) = (apart (codes ",") ∷ port (codes "input") p.width p.name) ∷ inputs ps
+inputs (p ∷ ps) = (apart kind.Comma ∷ port kind.Input p.width p.name) ∷ inputs ps
 
 abbrev pub outputs : List ℕ → List OutPort → List (List Piece)
 outputs ws [] = []
-outputs ws (o ∷ os) = (apart (codes ",") ∷ port (codes "output") (slice_index ws o.net) o.name) ∷ outputs ws os
+outputs ws (o ∷ os) = (apart kind.Comma ∷ port kind.Output (slice_index ws o.net) o.name) ∷ outputs ws os
 
 abbrev pub registers : ℕ → List Reg → List (List Piece)
 registers number [] = []
-registers number (r ∷ rs) = net (codes "reg") r.width (register_name number) ∷ registers (number + 1) rs
+registers number (r ∷ rs) = net kind.Reg r.width (register_name number) ∷ registers (number + 1) rs
 
 abbrev pub wires : ℕ → List Cell → List (List Piece)
 wires number [] = []
-wires number (c ∷ cs) = net (codes "wire") c.width (cell_name number) ∷ wires (number + 1) cs
+wires number (c ∷ cs) = net kind.Wire c.width (cell_name number) ∷ wires (number + 1) cs
 
 abbrev pub cell_values : Netlist → ℕ → List Cell → List (List Piece)
 cell_values n number [] = []
@@ -112,7 +162,7 @@ cell_values n number (c ∷ cs) = assignment (cell_name number) (expression n c.
 
 abbrev pub output_values : Netlist → List OutPort → List (List Piece)
 output_values n [] = []
-output_values n (o ∷ os) = assignment o.name (tight (net_name n o.net) ∷ []) ∷ output_values n os
+output_values n (o ∷ os) = assignment o.name (tight_name (net_name n o.net) ∷ []) ∷ output_values n os
 
 abbrev pub updates : Netlist → ℕ → List Reg → List (List Piece)
 updates n number [] = []
@@ -121,7 +171,7 @@ updates n number (r ∷ rs) = update (register_name number) (net_name n r.next) 
 -- the parts before the items, in groups
 unfoldable pub header : Netlist → List (List (List Piece))
 header n =
-    (heading n.name ∷ []) ∷ inputs n.inputs ∷ outputs (widths n) n.outputs ∷ ((tight (codes ")") ∷ last (codes ";") ∷ []) ∷ []) ∷ []
+    (heading n.name ∷ []) ∷ inputs n.inputs ∷ outputs (widths n) n.outputs ∷ ((tight kind.CloseParen ∷ last kind.Semicolon ∷ []) ∷ []) ∷ []
 
 -- the items that say which registers and cells there are
 unfoldable pub declarations : Netlist → List (List (List Piece))
@@ -131,7 +181,7 @@ declarations n = registers (length n.inputs) n.regs ∷ wires (sources n) n.cell
 unfoldable pub values : Netlist → List (List (List Piece))
 values n =
     cell_values n (sources n) n.cells ∷ output_values n n.outputs ∷ updates n (length n.inputs) n.regs
-    ∷ ((last (codes "endmodule") ∷ []) ∷ []) ∷ []
+    ∷ ((last kind.Endmodule ∷ []) ∷ []) ∷ []
 
 -- the bytes of pieces, of parts and of groups
 abbrev pub laid : List Piece → List ℕ
@@ -146,23 +196,6 @@ abbrev pub all_lines : List (List (List Piece)) → List ℕ
 all_lines [] = []
 all_lines (group ∷ more) = lines group ++ all_lines more
 
--- the tokens of pieces, of parts and of groups
-abbrev pub words : List Piece → List (List ℕ)
-words [] = []
-words (p ∷ ps) = p.word ∷ words ps
-
-abbrev pub part_words : List (List Piece) → List (List ℕ)
-part_words [] = []
-part_words (part ∷ parts) = words part ++ part_words parts
-
-abbrev pub all_words : List (List (List Piece)) → List (List ℕ)
-all_words [] = []
-all_words (group ∷ more) = part_words group ++ all_words more
-
 -- the printed text of a netlist
 unfoldable pub layout : Netlist → List ℕ
 layout n = all_lines (header n) ++ all_lines (declarations n) ++ all_lines (values n)
-
--- the tokens of a netlist's text
-unfoldable pub spelling : Netlist → List (List ℕ)
-spelling n = all_words (header n) ++ all_words (declarations n) ++ all_words (values n)

@@ -139,7 +139,8 @@ impl Progress {
     }
 
     fn add_output(&mut self, alloc: Global, name: &[u8], width: u32) -> Result<bool, Memory>
-        ensures { IfOk result (λ is. cond is (Some self.new) None ≡ spec.with_output self.old name.now width) }
+        ensures { IfOk result (λ is. cond is (Some self.new) None
+            ≡ spec.with_output self.old name.now width) }
     {
         let Some(name) = name_of(alloc, name)? else {
             return Ok(false);
@@ -175,7 +176,8 @@ impl Progress {
     }
 
     fn take_register(&mut self, name: &[u8], width: Option<u32>) -> Result<bool, Memory>
-        ensures { IfOk result (λ is. cond is (Some self.new) None ≡ spec.due_register self.old name.now width) }
+        ensures { IfOk result (λ is. cond is (Some self.new) None
+            ≡ spec.due_register self.old name.now width) }
     {
         let Some(width) = width else {
             return Ok(false);
@@ -212,7 +214,8 @@ impl Progress {
     }
 
     fn binary_of(&self, form: Kind, x: &[u8], y: &[u8]) -> Option<CellOp>
-        ensures { result ≡ spec.binary_of form (spec.net_named self.now x.now) (spec.net_named self.now y.now) }
+        ensures { result
+            ≡ spec.binary_of form (spec.net_named self.now x.now) (spec.net_named self.now y.now) }
     {
         let x = self.net_named(x)?;
         let y = self.net_named(y)?;
@@ -338,7 +341,8 @@ impl Progress {
         name: &[u8],
         value: &[u8],
     ) -> Result<bool, Memory>
-        ensures { IfOk result (λ is. cond is (Some self.new) None ≡ spec.due_shown self.old form name.now value.now) }
+        ensures { IfOk result (λ is. cond is (Some self.new) None
+            ≡ spec.due_shown self.old form name.now value.now) }
     {
         if !matches!(form, Kind::Semicolon) || !self.is_next_output(name) {
             return Ok(false);

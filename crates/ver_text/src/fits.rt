@@ -18,6 +18,7 @@ fn is_net(widths: &[u32], net: u64) -> bool
     net < widths.len() as u64
 }
 
+/// The width of a net, 0 where there is none.
 #[tactic(auto, using(crate::proofs::Lists::index_get))]
 pub fn width_at(widths: &[u32], net: u64) -> u32
     ensures { result ≡ slice_index widths.now net }

@@ -51,42 +51,12 @@ pub fn next_rule(kind: Kind) -> Rule
     }
 }
 
-/// The tokens that follow the first of a construct.
-pub fn behind(kind: Kind) -> &'static [Kind]
-    ensures { result.now ≡ spec.behind kind }
+/// The tokens that follow the first of an expression.
+fn behind_value(kind: Kind) -> &'static [Kind]
+    ensures { result.now ≡ spec.behind_value kind }
 {
     match kind {
-        Kind::Module => &[Kind::Name, Kind::OpenParen],
-        Kind::Input | Kind::Output => &[
-            Kind::OpenBracket,
-            Kind::Number,
-            Kind::Colon,
-            Kind::Number,
-            Kind::CloseBracket,
-            Kind::Name,
-        ],
-        Kind::CloseParen | Kind::Literal => &[Kind::Semicolon],
-        Kind::Reg | Kind::Wire => &[
-            Kind::OpenBracket,
-            Kind::Number,
-            Kind::Colon,
-            Kind::Number,
-            Kind::CloseBracket,
-            Kind::Name,
-            Kind::Semicolon,
-        ],
-        Kind::Assign => &[Kind::Name, Kind::Becomes],
-        Kind::Always => &[
-            Kind::At,
-            Kind::OpenParen,
-            Kind::Posedge,
-            Kind::Name,
-            Kind::CloseParen,
-            Kind::Name,
-            Kind::LessEqual,
-            Kind::Name,
-            Kind::Semicolon,
-        ],
+        Kind::Literal => &[Kind::Semicolon],
         Kind::Tilde
         | Kind::And
         | Kind::Or
@@ -111,6 +81,46 @@ pub fn behind(kind: Kind) -> &'static [Kind]
             Kind::Semicolon,
         ],
         _ => &[],
+    }
+}
+
+/// The tokens that follow the first of a construct.
+pub fn behind(kind: Kind) -> &'static [Kind]
+    ensures { result.now ≡ spec.behind kind }
+{
+    match kind {
+        Kind::Module => &[Kind::Name, Kind::OpenParen],
+        Kind::Input | Kind::Output => &[
+            Kind::OpenBracket,
+            Kind::Number,
+            Kind::Colon,
+            Kind::Number,
+            Kind::CloseBracket,
+            Kind::Name,
+        ],
+        Kind::CloseParen => &[Kind::Semicolon],
+        Kind::Reg | Kind::Wire => &[
+            Kind::OpenBracket,
+            Kind::Number,
+            Kind::Colon,
+            Kind::Number,
+            Kind::CloseBracket,
+            Kind::Name,
+            Kind::Semicolon,
+        ],
+        Kind::Assign => &[Kind::Name, Kind::Becomes],
+        Kind::Always => &[
+            Kind::At,
+            Kind::OpenParen,
+            Kind::Posedge,
+            Kind::Name,
+            Kind::CloseParen,
+            Kind::Name,
+            Kind::LessEqual,
+            Kind::Name,
+            Kind::Semicolon,
+        ],
+        _ => behind_value(kind),
     }
 }
 

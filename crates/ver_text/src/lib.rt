@@ -1,4 +1,5 @@
-//! The text of netlists, in a subset of Verilog (IEEE 1364-2005): a netlist's text, and the netlist that a text spells.
+//! The text of netlists, in a subset of Verilog (IEEE 1364-2005): a netlist's text, and the netlist that
+//! a text spells.
 #![tactic(auto)]
 
 mod digits;
@@ -21,3 +22,6 @@ pub use fault::TextFault;
 pub use laws::syntax_law;
 pub use printer::{Bytes, print};
 pub use reader::read;
+
+#[cfg(test)]
+mod tests;

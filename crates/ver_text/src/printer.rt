@@ -2,6 +2,7 @@ ghost use Rattle.std.specs.Prelude.{◌≡◌, ◌++◌, [], ◌∷◌, ◌+◌,
 ghost use Rattle.net_cells.specs.Rules.{IsWellFormed, widths, sources};
 ghost use Rattle.ver_text.specs.Spelling as spec;
 
+use crate::kind::Kind;
 use crate::writing::Text;
 use dip_lists::{Items, Memory};
 use net_cells::{Cell, CellOp, Netlist, OutPort, Port, Reg};
@@ -9,6 +10,45 @@ use std::alloc::Global;
 
 /// The bytes of a text.
 pub type Bytes = Items<u8>;
+
+/// The bytes of a keyword or another token that isn't a name, a number or a literal.
+fn written_as(kind: Kind) -> &'static [u8]
+    ensures { result.now ≡ spec.written_as kind }
+{
+    match kind {
+        Kind::Module => b"module",
+        Kind::Input => b"input",
+        Kind::Output => b"output",
+        Kind::Reg => b"reg",
+        Kind::Wire => b"wire",
+        Kind::Assign => b"assign",
+        Kind::Always => b"always",
+        Kind::Posedge => b"posedge",
+        Kind::Endmodule => b"endmodule",
+        Kind::OpenParen => b"(",
+        Kind::CloseParen => b")",
+        Kind::OpenBracket => b"[",
+        Kind::CloseBracket => b"]",
+        Kind::OpenBrace => b"{",
+        Kind::CloseBrace => b"}",
+        Kind::Comma => b",",
+        Kind::Semicolon => b";",
+        Kind::Colon => b":",
+        Kind::Becomes => b"=",
+        Kind::Question => b"?",
+        Kind::At => b"@",
+        Kind::Tilde => b"~",
+        Kind::And => b"&",
+        Kind::Or => b"|",
+        Kind::Xor => b"^",
+        Kind::Plus => b"+",
+        Kind::Minus => b"-",
+        Kind::Equal => b"==",
+        Kind::Less => b"<",
+        Kind::LessEqual => b"<=",
+        _ => b"",
+    }
+}
 
 fn add_range(text: &mut Text, width: u32) -> Result<(), Memory>
     ensures { OnOk result (text.new ≡ text.old ++ spec.laid (spec.range width)) }
@@ -18,10 +58,10 @@ fn add_range(text: &mut Text, width: u32) -> Result<(), Memory>
     text.add(b":0] ")
 }
 
-fn add_port(text: &mut Text, direction: &[u8], width: u32, name: &[u8]) -> Result<(), Memory>
-    ensures { OnOk result (text.new ≡ text.old ++ spec.laid (spec.port direction.now width name.now)) }
+fn add_port(text: &mut Text, direction: Kind, width: u32, name: &[u8]) -> Result<(), Memory>
+    ensures { OnOk result (text.new ≡ text.old ++ spec.laid (spec.port direction width name.now)) }
 {
-    text.add(direction)?;
+    text.add(written_as(direction))?;
     text.add(b" ")?;
     add_range(text, width)?;
     text.add(name)
@@ -33,7 +73,7 @@ fn add_heading(text: &mut Text, name: &[u8]) -> Result<(), Memory>
     text.add(b"module ")?;
     text.add(name)?;
     text.add(b"(")?;
-    add_port(text, b"input", 1, b"clock")
+    add_port(text, Kind::Input, 1, b"clock")
 }
 
 fn add_inputs(text: &mut Text, inputs: &[Port]) -> Result<(), Memory>
@@ -41,7 +81,7 @@ fn add_inputs(text: &mut Text, inputs: &[Port]) -> Result<(), Memory>
 {
     for port in inputs {
         text.add(b", ")?;
-        add_port(text, b"input", port.width, port.name.bytes())?;
+        add_port(text, Kind::Input, port.width, port.name.bytes())?;
     }
     Ok(())
 }
@@ -55,13 +95,14 @@ fn width_of(netlist: &Netlist, net: u64) -> u32
 }
 
 fn add_outputs(text: &mut Text, netlist: &Netlist, outputs: &[OutPort]) -> Result<(), Memory>
-    ensures { OnOk result (text.new ≡ text.old ++ spec.lines (spec.outputs (widths netlist.now) outputs.now)) }
+    ensures { OnOk result (text.new ≡ text.old
+        ++ spec.lines (spec.outputs (widths netlist.now) outputs.now)) }
 {
     for port in outputs {
         text.add(b", ")?;
         add_port(
             text,
-            b"output",
+            Kind::Output,
             width_of(netlist, port.net),
             port.name.bytes(),
         )?;
@@ -71,14 +112,15 @@ fn add_outputs(text: &mut Text, netlist: &Netlist, outputs: &[OutPort]) -> Resul
 
 fn add_net(
     text: &mut Text,
-    what: &[u8],
+    what: Kind,
     width: u32,
     letter: &[u8],
     number: u64,
 ) -> Result<(), Memory>
-    ensures { OnOk result (text.new ≡ text.old ++ spec.laid (spec.net what.now width (letter.now ++ decimal number))) }
+    ensures { OnOk result (text.new ≡ text.old
+        ++ spec.laid (spec.net what width (letter.now ++ decimal number))) }
 {
-    text.add(what)?;
+    text.add(written_as(what))?;
     text.add(b" ")?;
     add_range(text, width)?;
     text.add(letter)?;
@@ -92,7 +134,7 @@ fn add_registers(text: &mut Text, first: u64, regs: &[Reg]) -> Result<(), Memory
 {
     let mut number = first;
     for reg in regs {
-        add_net(text, b"reg", reg.width, b"r", number)?;
+        add_net(text, Kind::Reg, reg.width, b"r", number)?;
         number += 1;
     }
     Ok(())
@@ -104,7 +146,7 @@ fn add_wires(text: &mut Text, first: u64, cells: &[Cell]) -> Result<(), Memory>
 {
     let mut number = first;
     for cell in cells {
-        add_net(text, b"wire", cell.width, b"w", number)?;
+        add_net(text, Kind::Wire, cell.width, b"w", number)?;
         number += 1;
     }
     Ok(())
@@ -144,16 +186,16 @@ fn add_between(
     text: &mut Text,
     netlist: &Netlist,
     x: u64,
-    operator: &[u8],
+    operator: Kind,
     y: u64,
 ) -> Result<(), Memory>
     requires { length (widths netlist.now) < 2 ^ 64 }
     ensures { OnOk result (text.new ≡ text.old
-        ++ spec.laid (spec.between (spec.net_name netlist.now x) operator.now (spec.net_name netlist.now y))) }
+        ++ spec.laid (spec.between (spec.net_name netlist.now x) operator (spec.net_name netlist.now y))) }
 {
     add_name(text, netlist, x)?;
     text.add(b" ")?;
-    text.add(operator)?;
+    text.add(written_as(operator))?;
     text.add(b" ")?;
     add_name(text, netlist, y)
 }
@@ -168,7 +210,8 @@ fn add_not(text: &mut Text, netlist: &Netlist, x: u64) -> Result<(), Memory>
 
 fn add_mux(text: &mut Text, netlist: &Netlist, pick: u64, x: u64, y: u64) -> Result<(), Memory>
     requires { length (widths netlist.now) < 2 ^ 64 }
-    ensures { OnOk result (text.new ≡ text.old ++ spec.laid (spec.expression netlist.now 0 (CellOp.Mux pick x y))) }
+    ensures { OnOk result (text.new ≡ text.old
+        ++ spec.laid (spec.expression netlist.now 0 (CellOp.Mux pick x y))) }
 {
     add_name(text, netlist, pick)?;
     text.add(b" ? ")?;
@@ -179,7 +222,8 @@ fn add_mux(text: &mut Text, netlist: &Netlist, pick: u64, x: u64, y: u64) -> Res
 
 fn add_concat(text: &mut Text, netlist: &Netlist, x: u64, y: u64) -> Result<(), Memory>
     requires { length (widths netlist.now) < 2 ^ 64 }
-    ensures { OnOk result (text.new ≡ text.old ++ spec.laid (spec.expression netlist.now 0 (CellOp.Concat x y))) }
+    ensures { OnOk result (text.new ≡ text.old
+        ++ spec.laid (spec.expression netlist.now 0 (CellOp.Concat x y))) }
 {
     text.add(b"{")?;
     add_name(text, netlist, x)?;
@@ -190,7 +234,8 @@ fn add_concat(text: &mut Text, netlist: &Netlist, x: u64, y: u64) -> Result<(), 
 
 fn add_select(text: &mut Text, netlist: &Netlist, x: u64, hi: u32, lo: u32) -> Result<(), Memory>
     requires { length (widths netlist.now) < 2 ^ 64 }
-    ensures { OnOk result (text.new ≡ text.old ++ spec.laid (spec.expression netlist.now 0 (CellOp.Select x hi lo))) }
+    ensures { OnOk result (text.new ≡ text.old
+        ++ spec.laid (spec.expression netlist.now 0 (CellOp.Select x hi lo))) }
 {
     add_name(text, netlist, x)?;
     text.add(b"[")?;
@@ -207,13 +252,13 @@ fn add_expression(text: &mut Text, netlist: &Netlist, width: u32, op: CellOp) ->
     match op {
         CellOp::Const(value) => text.add_literal(width, value),
         CellOp::Not(x) => add_not(text, netlist, x),
-        CellOp::And(x, y) => add_between(text, netlist, x, b"&", y),
-        CellOp::Or(x, y) => add_between(text, netlist, x, b"|", y),
-        CellOp::Xor(x, y) => add_between(text, netlist, x, b"^", y),
-        CellOp::Add(x, y) => add_between(text, netlist, x, b"+", y),
-        CellOp::Sub(x, y) => add_between(text, netlist, x, b"-", y),
-        CellOp::Eq(x, y) => add_between(text, netlist, x, b"==", y),
-        CellOp::Less(x, y) => add_between(text, netlist, x, b"<", y),
+        CellOp::And(x, y) => add_between(text, netlist, x, Kind::And, y),
+        CellOp::Or(x, y) => add_between(text, netlist, x, Kind::Or, y),
+        CellOp::Xor(x, y) => add_between(text, netlist, x, Kind::Xor, y),
+        CellOp::Add(x, y) => add_between(text, netlist, x, Kind::Plus, y),
+        CellOp::Sub(x, y) => add_between(text, netlist, x, Kind::Minus, y),
+        CellOp::Eq(x, y) => add_between(text, netlist, x, Kind::Equal, y),
+        CellOp::Less(x, y) => add_between(text, netlist, x, Kind::Less, y),
         CellOp::Mux(pick, x, y) => add_mux(text, netlist, pick, x, y),
         CellOp::Concat(x, y) => add_concat(text, netlist, x, y),
         CellOp::Select { net, hi, lo } => add_select(text, netlist, net, hi, lo),
@@ -223,7 +268,8 @@ fn add_expression(text: &mut Text, netlist: &Netlist, width: u32, op: CellOp) ->
 fn add_cell_value(text: &mut Text, netlist: &Netlist, number: u64, cell: Cell) -> Result<(), Memory>
     requires { length (widths netlist.now) < 2 ^ 64 }
     ensures { OnOk result (text.new ≡ text.old
-        ++ spec.laid (spec.assignment (spec.cell_name number) (spec.expression netlist.now cell.width cell.op))) }
+        ++ spec.laid
+        (spec.assignment (spec.cell_name number) (spec.expression netlist.now cell.width cell.op))) }
 {
     text.add(b"assign w")?;
     text.add_number(number)?;
@@ -253,7 +299,8 @@ fn add_cell_values(
 fn add_output_value(text: &mut Text, netlist: &Netlist, output: &OutPort) -> Result<(), Memory>
     requires { length (widths netlist.now) < 2 ^ 64 }
     ensures { OnOk result (text.new ≡ text.old
-        ++ spec.laid (spec.assignment output.now.name (spec.tight (spec.net_name netlist.now output.now.net) ∷ []))) }
+        ++ spec.laid
+        (spec.assignment output.now.name (spec.tight_name (spec.net_name netlist.now output.now.net) ∷ []))) }
 {
     text.add(b"assign ")?;
     text.add(output.name.bytes())?;

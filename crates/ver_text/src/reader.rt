@@ -44,7 +44,8 @@ fn take_ended(
     ended: bool,
     part: Part,
 ) -> Result<bool, Memory>
-    ensures { IfOk result (λ is. cond is (Some progress.new) None ≡ spec.due_where ended text.now progress.old part) }
+    ensures { IfOk result (λ is. cond is (Some progress.new) None
+        ≡ spec.due_where ended text.now progress.old part) }
 {
     if !ended {
         return Ok(true);

@@ -16,7 +16,8 @@ fn after(state: State, kind: Kind) -> Option<State>
     state.step(kind)
 }
 
-/// The place at which the syntax refuses a text: of its first token, or first byte that begins none, with which
+/// The place at which the syntax refuses a text: of its first token, or first byte that begins none,
+/// with which
 /// no text of the syntax begins; or its length, where it ends too early. `None` where it has the syntax.
 pub fn refused_place(text: &[u8]) -> Option<usize>
     ensures { result ≡ refused start (tokens_from text.now 0) (length text.now) }
