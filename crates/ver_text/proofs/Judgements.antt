@@ -1,5 +1,5 @@
 -- The parts of a text are judged along it.
-use Rattle.std.proofs.Common.{ℕ, ◌≡◌, ◌+◌, ◌<◌, ◌≤◌, List, [], ◌∷◌, length, drop, Bool, true, false, not, ◌&&◌, cond, Option, Some, None, Result, Ok, Err, refl, ap, sym, ◌∙◌}
+use Rattle.std.proofs.Common.{ℕ, ◌≡◌, ◌+◌, ◌<◌, ◌≤◌, List, ◌∷◌, length, drop, Bool, true, false, not, ◌&&◌, cond, Option, Some, None, Result, Ok, Err, refl, ap, sym, ◌∙◌}
 use Rattle.ver_text.specs.declared.scan.Lexeme.{Lexeme}
 use Rattle.ver_text.specs.declared.token.Token.{Token}
 use Rattle.ver_text.specs.declared.part.Part.{Part}
@@ -7,7 +7,7 @@ use Rattle.ver_text.specs.declared.part.Cursor.{Cursor}
 use Rattle.ver_text.specs.declared.progress.Progress.{Progress}
 use Rattle.ver_text.specs.Kinds.{is_gap}
 use Rattle.ver_text.specs.Lexemes.{first_lexeme}
-use Rattle.ver_text.specs.Tokens.{found, tokens_from}
+use Rattle.ver_text.specs.Tokens.{tokens_from}
 use Rattle.ver_text.specs.Parts.{ends, moved, parts}
 use Rattle.ver_text.specs.Due.{due}
 use Rattle.ver_text.specs.Reading.{judged, moved_past, has_ended, due_where}

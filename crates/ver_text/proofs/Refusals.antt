@@ -1,11 +1,11 @@
 -- The first token that the syntax refuses is the first after which no continuation has it.
-use Rattle.std.proofs.Common.{ℕ, zero, suc, ◌≡◌, ◌+◌, ◌≤◌, List, [], ◌∷◌, ◌++◌, length, drop, map, Bool, true, false, cond, Option, Some, None, refl, ap, sym, subst, ◌∙◌, append_assoc, add-one, arith}
+use Rattle.std.proofs.Common.{ℕ, zero, suc, ◌≡◌, ◌+◌, List, [], ◌∷◌, ◌++◌, drop, Bool, true, false, cond, Option, Some, None, refl, ap, sym, subst, ◌∙◌, append_assoc, add-one, arith}
 use Rattle.std.specs.Prelude.{slice_get, ◌==◌}
 use Rattle.std.proofs.lemmas.List.{append-nil}
 use Rattle.std.proofs.lemmas.Bool.{false≢true}
 use Rattle.std.proofs.lemmas.Bool.Decides.{nat_tests}
 use Rattle.ver_text.specs.declared.kind.Kind.{Kind}
-use Rattle.ver_text.specs.declared.kind.Kind.TheVariants.{Name, Number, Literal, Module, Input, Output, Reg, Wire, Assign, Always, Posedge, Endmodule, OpenParen, CloseParen, OpenBracket, CloseBracket, OpenBrace, CloseBrace, Comma, Semicolon, Colon, Becomes, Question, At, Tilde, And, Or, Xor, Plus, Minus, Equal, Less, LessEqual, Gap, Unknown}
+use Rattle.ver_text.specs.declared.kind.Kind.TheVariants.{Name, Number, Literal, Module, Input, Endmodule, OpenParen, CloseParen, OpenBracket, CloseBracket, Semicolon, Colon}
 use Rattle.ver_text.specs.declared.kind.Rule.{Rule}
 use Rattle.ver_text.specs.declared.kind.Rule.TheVariants.{Text, Port, MorePorts, Item, Expression, AfterName, Ended, Inner}
 use Rattle.ver_text.specs.declared.token.Token.{Token}
@@ -13,7 +13,7 @@ use Rattle.ver_text.specs.declared.grammar.State.{State}
 use Rattle.ver_text.specs.Kinds.{same_kind, same_rule, number_of_kind}
 use Rattle.ver_text.specs.Grammar.{behind, next_rule, rule_of, start, within, step, run, then_run, is_whole, is_whole_text, HasSyntax}
 use Rattle.ver_text.specs.Tokens.{refused}
-use Rattle.ver_text.specs.SyntaxLaw.{kinds_of, CanGoOn, IsWrongBehind, IsFirstWrong, IsTold}
+use Rattle.ver_text.specs.SyntaxLaw.{kinds_of, CanGoOn, IsTold}
 
 same_number : (n : ℕ) → (n == n) ≡ true
 same_number n = grind (arith, nat_tests)

@@ -1,13 +1,12 @@
 -- A text is scanned token by token.
-use Rattle.std.proofs.Common.{ℕ, zero, suc, ◌≡◌, ◌+◌, ◌-◌, ◌<◌, ◌≤◌, List, [], ◌∷◌, length, drop, take, length-drop, Bool, true, false, cond, Option, Some, None, refl, ap, sym, ◌∙◌, arith}
+use Rattle.std.proofs.Common.{ℕ, zero, suc, ◌≡◌, ◌+◌, ◌<◌, ◌≤◌, List, [], ◌∷◌, length, drop, length-drop, Bool, true, false, cond, Some, None, refl, ap, sym, ◌∙◌, arith}
 use Rattle.std.proofs.lemmas.List.{drop_all, drop-drop}
-use Rattle.ver_text.specs.declared.kind.Kind.{Kind}
 use Rattle.ver_text.specs.declared.scan.Lexeme.{Lexeme}
 use Rattle.ver_text.specs.declared.token.Token.{Token}
 use Rattle.ver_text.specs.declared.grammar.State.{State}
 use Rattle.ver_text.specs.Kinds.{is_gap}
 use Rattle.ver_text.specs.Lexemes.{first_lexeme}
-use Rattle.ver_text.specs.Grammar.{start, step, is_whole}
+use Rattle.ver_text.specs.Grammar.{step, is_whole}
 use Rattle.ver_text.specs.Tokens.{found, tokens_at, tokens_from, after, refused}
 
 -- skipped bytes are those of what stands before

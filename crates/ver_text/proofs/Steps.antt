@@ -1,5 +1,5 @@
 -- One more part of a text.
-use Rattle.std.proofs.Common.{ℕ, ◌≡◌, List, Bool, true, false, cond, Option, Some, None, refl, ap, sym, ◌∙◌}
+use Rattle.std.proofs.Common.{ℕ, ◌≡◌, List, Bool, true, cond, Option, None, refl, ap, sym, ◌∙◌}
 use Rattle.std.specs.Prelude.{slice_index}
 use Rattle.net_cells.specs.declared.netlist.CellOp.{CellOp}
 use Rattle.ver_text.specs.declared.kind.Kind.{Kind}

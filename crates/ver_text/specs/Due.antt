@@ -1,13 +1,10 @@
 -- Which part of a text may come next, and what it says.
-use Rattle.std.specs.Prelude.{ℕ, ◌+◌, ◌-◌, ◌==◌, List, [], ◌∷◌, ◌++◌, length, codes, slice_get, slice_index, Bool, true, false, not, ◌&&◌, nat_le, nat_lt, nat_eq, cond, Option, Some, None}
+use Rattle.std.specs.Prelude.{ℕ, ◌+◌, ◌==◌, List, [], ◌∷◌, ◌++◌, length, codes, slice_get, slice_index, Bool, true, false, not, ◌&&◌, nat_le, nat_lt, nat_eq, cond, Option, Some, None}
 use Rattle.std.specs.List.{list_all, starts_with}
 use Rattle.std.specs.Str.{bytes_eq}
 use Rattle.dip_sets.specs.Names.{is_name}
 use Rattle.net_cells.specs.declared.netlist.TheConstants.{WIDTH_LIMIT}
 use Rattle.net_cells.specs.declared.netlist.Port.{Port}
-use Rattle.net_cells.specs.declared.netlist.Reg.{Reg}
-use Rattle.net_cells.specs.declared.netlist.Cell.{Cell}
-use Rattle.net_cells.specs.declared.netlist.OutPort.{OutPort}
 use Rattle.net_cells.specs.declared.netlist.CellOp.{CellOp}
 use Rattle.net_cells.specs.declared.netlist.CellOp.TheVariants as op
 use Rattle.ver_text.specs.declared.kind.Kind.{Kind}

@@ -16,13 +16,13 @@
 --   AfterName   ;   or  an operator NAME ;   or  ? NAME : NAME ;   or  [ NUMBER : NUMBER ] ;   then Item
 --
 -- where a range is [ NUMBER : NUMBER ].
-use Rattle.std.specs.Prelude.{◌≡◌, ℕ, ◌+◌, ◌==◌, List, [], ◌∷◌, ◌++◌, length, slice_get, Bool, true, false, cond, Option, Some, None}
+use Rattle.std.specs.Prelude.{◌≡◌, ◌+◌, List, [], ◌∷◌, slice_get, Bool, true, false, cond, Option, Some, None}
 use Rattle.ver_text.specs.declared.kind.Kind.{Kind}
-use Rattle.ver_text.specs.declared.kind.Kind.TheVariants.{Name, Number, Literal, Module, Input, Output, Reg, Wire, Assign, Always, Posedge, Endmodule, OpenParen, CloseParen, OpenBracket, CloseBracket, OpenBrace, CloseBrace, Comma, Semicolon, Colon, Becomes, Question, At, Tilde, And, Or, Xor, Plus, Minus, Equal, Less, LessEqual, Gap, Unknown}
+use Rattle.ver_text.specs.declared.kind.Kind.TheVariants.{Name, Number, Literal, Module, Input, Output, Reg, Wire, Assign, Always, Posedge, Endmodule, OpenParen, CloseParen, OpenBracket, CloseBracket, OpenBrace, CloseBrace, Comma, Semicolon, Colon, Becomes, Question, At, Tilde, And, Or, Xor, Plus, Minus, Equal, Less, LessEqual, Gap}
 use Rattle.ver_text.specs.declared.kind.Rule.{Rule}
 use Rattle.ver_text.specs.declared.kind.Rule.TheVariants.{Text, Port, MorePorts, Item, Expression, AfterName, Ended, Inner}
 use Rattle.ver_text.specs.declared.grammar.State.{State}
-use Rattle.ver_text.specs.Kinds.{same_kind, same_rule, is_gap}
+use Rattle.ver_text.specs.Kinds.{same_kind, same_rule}
 
 -- where a construct may stand that begins with this token
 abbrev pub rule_of : Kind → Rule

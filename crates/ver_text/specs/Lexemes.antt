@@ -1,5 +1,5 @@
 -- The longest token, or gap between tokens, at the front of a text.
-use Rattle.std.specs.Prelude.{ℕ, ◌+◌, ◌-◌, ◌==◌, List, [], ◌∷◌, length, codes, take, drop, slice_index, Bool, not, ◌&&◌, ◌||◌, nat_le, nat_lt, cond}
+use Rattle.std.specs.Prelude.{ℕ, ◌+◌, ◌-◌, ◌==◌, List, length, codes, take, drop, slice_index, Bool, not, ◌&&◌, ◌||◌, nat_le, nat_lt, cond}
 use Rattle.std.specs.List.{prefix_len}
 use Rattle.std.specs.Str.{bytes_eq}
 use Rattle.dip_sets.specs.Names.{is_letter, is_name_byte}

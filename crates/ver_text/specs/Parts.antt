@@ -1,7 +1,7 @@
 -- The parts of a text that has the syntax: the module's name, each port, each item and the end.
-use Rattle.std.specs.Prelude.{ℕ, ◌+◌, ◌==◌, List, [], ◌∷◌, length, Bool, true, false, ◌&&◌, ◌||◌, nat_le, cond, Option, Some, None}
+use Rattle.std.specs.Prelude.{◌==◌, List, [], ◌∷◌, length, Bool, true, false, ◌&&◌, ◌||◌, nat_le, cond, Option, Some, None}
 use Rattle.ver_text.specs.declared.kind.Kind.{Kind}
-use Rattle.ver_text.specs.declared.kind.Kind.TheVariants.{Name, Number, Literal, Module, Input, Output, Reg, Wire, Assign, Always, Posedge, Endmodule, OpenParen, CloseParen, OpenBracket, CloseBracket, OpenBrace, CloseBrace, Comma, Semicolon, Colon, Becomes, Question, At, Tilde, And, Or, Xor, Plus, Minus, Equal, Less, LessEqual, Gap, Unknown}
+use Rattle.ver_text.specs.declared.kind.Kind.TheVariants.{Name, Module, Assign, CloseParen, Comma, Gap}
 use Rattle.ver_text.specs.declared.kind.Rule.{Rule}
 use Rattle.ver_text.specs.declared.kind.Rule.TheVariants.{Port, Item}
 use Rattle.ver_text.specs.declared.token.Token.{Token}

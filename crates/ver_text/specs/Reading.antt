@@ -1,8 +1,7 @@
 -- What a text says, or the place at which it is refused.
-use Rattle.std.specs.Prelude.{◌≡◌, ℕ, ◌+◌, List, [], ◌∷◌, length, Bool, not, ◌&&◌, cond, false, Option, Some, None, Result, Ok, Err}
+use Rattle.std.specs.Prelude.{◌≡◌, ℕ, ◌+◌, List, [], ◌∷◌, length, Bool, not, ◌&&◌, cond, Option, Some, None, Result, Ok, Err}
 use Rattle.net_cells.specs.declared.netlist.Netlist.{Netlist}
 use Rattle.ver_text.specs.declared.scan.Lexeme.{Lexeme}
-use Rattle.ver_text.specs.declared.token.Token.{Token}
 use Rattle.ver_text.specs.declared.part.Part.{Part}
 use Rattle.ver_text.specs.declared.part.Cursor.{Cursor}
 use Rattle.ver_text.specs.declared.progress.Progress.{Progress}

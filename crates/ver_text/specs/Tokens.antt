@@ -1,12 +1,12 @@
 -- The tokens of a text, in order, and where the syntax refuses it.
-use Rattle.std.specs.Prelude.{ℕ, zero, suc, ◌+◌, List, [], ◌∷◌, length, drop, take, cond, Option, Some, None}
+use Rattle.std.specs.Prelude.{ℕ, zero, suc, ◌+◌, List, [], ◌∷◌, drop, take, cond, Option, Some, None}
 use Rattle.ver_text.specs.declared.kind.Kind.{Kind}
 use Rattle.ver_text.specs.declared.scan.Lexeme.{Lexeme}
 use Rattle.ver_text.specs.declared.token.Token.{Token}
 use Rattle.ver_text.specs.declared.grammar.State.{State}
 use Rattle.ver_text.specs.Kinds.{is_gap}
 use Rattle.ver_text.specs.Lexemes.{first_lexeme}
-use Rattle.ver_text.specs.Grammar.{start, step, is_whole}
+use Rattle.ver_text.specs.Grammar.{step, is_whole}
 
 -- a token at a place, before the others; a gap is none
 abbrev pub found : ℕ → Lexeme → List Token → List Token

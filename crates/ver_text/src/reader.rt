@@ -100,7 +100,6 @@ fn netlist_of(progress: Progress) -> Result<Netlist, TextFault>
 /// The netlist that a text spells, or the place at which it is refused.
 #[tactic(auto, unfolding(crate::specs::Reading::read_text, crate::specs::Reading::parts_say))]
 pub fn read(alloc: Global, text: &[u8]) -> Result<Netlist, TextFault>
-    requires { length text.now ≤ 268435456 }
     ensures { spec.Gives (spec.read_text text.now) result }
 {
     if let Some(place) = refused_place(text) {

@@ -1,4 +1,5 @@
 use crate::{TextFault, print, read, syntax_law};
+use net_cells::well_formed;
 use std::alloc::Global;
 use std::test::Fail;
 
@@ -144,9 +145,12 @@ fn cut_texts(rt: HostRuntime) -> Result<(), Fail> {
     Ok(())
 }
 
-/// Whether a printed text is read, and printed again as it stands.
+/// Whether a text is that of a well-formed netlist, and is printed again as it stands.
 fn is_printed_again(alloc: Global, text: &str) -> Result<bool, Fail> {
     let netlist = read(alloc, text.as_bytes())?;
+    if !well_formed(&netlist) {
+        return Ok(false);
+    }
     let again = print(alloc, &netlist)?;
     Ok(again.as_slice() == text.as_bytes())
 }

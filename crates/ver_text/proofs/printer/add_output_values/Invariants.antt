@@ -1,6 +1,5 @@
-use Rattle.std.proofs.Common.{◌≡◌, ◌++◌, ◌+◌, drop}
+use Rattle.std.proofs.Common.{◌≡◌, ◌++◌, drop}
 use Rattle.ver_text.specs.Spelling as spec
-use Rattle.net_cells.specs.Rules.{widths}
 use Rattle.ver_text.proofs.printer.add_output_values.Given as goal
 
 abbrev pub invariant-loop-output : goal.invariant-loop-output

@@ -1,4 +1,4 @@
-use Rattle.std.proofs.Common.{◌≡◌, ◌++◌, ◌+◌, drop}
+use Rattle.std.proofs.Common.{◌≡◌, ◌++◌, drop}
 use Rattle.ver_text.specs.Spelling as spec
 use Rattle.net_cells.specs.Rules.{widths}
 use Rattle.ver_text.proofs.printer.add_outputs.Given as goal

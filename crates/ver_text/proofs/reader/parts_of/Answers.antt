@@ -1,4 +1,4 @@
-use Rattle.std.proofs.Common.{length, sym, ◌∙◌, arith}
+use Rattle.std.proofs.Common.{sym, ◌∙◌, arith}
 use Rattle.ver_text.proofs.Judgements.{judged_there, judged_later, judged_end}
 use Rattle.ver_text.proofs.reader.parts_of.Goals as goal
 
