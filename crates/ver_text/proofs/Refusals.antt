@@ -54,7 +54,7 @@ begins_by : (s : State) (r : Rule) (k : Kind) (wanted : Option Kind) → wanted 
     → within s wanted k ≡ Some (record { first = k; done = 0 })
 begins_by s r k wanted n e t = rw n (rw e (rw t refl))
 
-begins : (s : State) (r : Rule) (k : Kind) → IsDone s r → same_rule r (rule_of k) ≡ true → step s k ≡ Some (record { first = k; done = 0 })
+pub begins : (s : State) (r : Rule) (k : Kind) → IsDone s r → same_rule r (rule_of k) ≡ true → step s k ≡ Some (record { first = k; done = 0 })
 unfolding step
 begins s r k d t = begins_by s r k _ d.none d.next t
 

@@ -8,4 +8,6 @@ pub mod Parts
 pub mod Reading
 pub mod Spelling
 pub mod SyntaxLaw
+pub mod TestLaw
+pub mod TextLaw
 pub mod Tokens

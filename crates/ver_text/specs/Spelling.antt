@@ -10,6 +10,7 @@ use Rattle.net_cells.specs.declared.netlist.Netlist.{Netlist}
 use Rattle.net_cells.specs.Rules.{widths, sources}
 use Rattle.ver_text.specs.declared.kind.Kind.{Kind}
 use Rattle.ver_text.specs.declared.kind.Kind.TheVariants as kind
+use Rattle.ver_text.specs.Kinds.{is_word}
 use Rattle.ver_text.specs.Numerals.{literal}
 
 -- keywords and other tokens that aren't names, numbers or literals
@@ -196,6 +197,31 @@ abbrev pub all_lines : List (List (List Piece)) → List ℕ
 all_lines [] = []
 all_lines (group ∷ more) = lines group ++ all_lines more
 
+-- What a token says: what it is, and of names, numbers and literals their bytes.
+pub record Sign : Type 0 where
+  pub kind : Kind
+  pub word : List ℕ
+
+abbrev pub sign : Kind → List ℕ → Sign
+sign kind word = record { kind = kind; word = cond (is_word kind) word [] }
+
+-- the tokens of pieces, of parts and of groups
+abbrev pub signs : List Piece → List Sign
+signs [] = []
+signs (p ∷ ps) = sign p.kind p.word ∷ signs ps
+
+abbrev pub part_signs : List (List Piece) → List Sign
+part_signs [] = []
+part_signs (part ∷ parts) = signs part ++ part_signs parts
+
+abbrev pub all_signs : List (List (List Piece)) → List Sign
+all_signs [] = []
+all_signs (group ∷ more) = part_signs group ++ all_signs more
+
 -- the printed text of a netlist
 unfoldable pub layout : Netlist → List ℕ
 layout n = all_lines (header n) ++ all_lines (declarations n) ++ all_lines (values n)
+
+-- the tokens of a netlist's text
+unfoldable pub spelling : Netlist → List Sign
+spelling n = all_signs (header n) ++ all_signs (declarations n) ++ all_signs (values n)

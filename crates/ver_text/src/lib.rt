@@ -19,7 +19,7 @@ mod token;
 mod writing;
 
 pub use fault::TextFault;
-pub use laws::syntax_law;
+pub use laws::{spelling_law, syntax_law, tests_law};
 pub use printer::{Bytes, print};
 pub use reader::read;
 

@@ -1,4 +1,4 @@
-use crate::{TextFault, print, read, syntax_law};
+use crate::{TextFault, print, read, spelling_law, syntax_law, tests_law};
 use net_cells::well_formed;
 use std::alloc::Global;
 use std::test::Fail;
@@ -118,6 +118,8 @@ fn changes_of_a_counter(rt: HostRuntime) -> Result<(), Fail> {
         assert_eq!(rt; refused(rt.alloc(), text.as_slice())?, *want, "at {at}");
     }
     syntax_law();
+    tests_law();
+    spelling_law();
     Ok(())
 }
 
