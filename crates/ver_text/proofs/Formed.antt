@@ -49,7 +49,7 @@ distinct_from (p ∷ ps) h = (distinct_by p ps h.0, distinct_from ps h.1)
 
 -- ---- names that aren't numbers
 
-abbrev Low : ℕ → List ℕ → Type 0
+abbrev pub Low : ℕ → List ℕ → Type 0
 Low n ds = (c : ℕ) (cs : List ℕ) → ds ≡ c ∷ cs → c ≤ 57
 
 low_one : (n : ℕ) → n < 10 → Low n ((48 + n) ∷ [])
@@ -59,7 +59,7 @@ low_more : (n : ℕ) (ds : List ℕ) → 10 ≤ n → Low (n / 10) ds → Low n 
 low_more n [] h l c cs e = let t : 48 + n % 10 ≡ c = (cc) in omega arith
 low_more n (d ∷ ds) h l c cs e = let t : d ≡ c = (cc) in let b : d ≤ 57 = l d ds refl in omega arith
 
-low_first : (n : ℕ) → n < 2 ^ 64 → Low n (decimal n)
+pub low_first : (n : ℕ) → n < 2 ^ 64 → Low n (decimal n)
 low_first n h = decimal_by_steps Low low_one low_more n h
 
 no_number_by : (o : Option ℕ) (c : ℕ) (cs : List ℕ) → 57 < c → number_of (c ∷ cs) ≡ o → number_of (c ∷ cs) ≡ None
@@ -88,15 +88,15 @@ all_unnumbered (p ∷ ps) h = (port_unnumbered p h.0, all_unnumbered ps h.1)
 
 -- ---- lists in parts
 
-left_rec : {A : Type 0} (P : A → Type 0) (xs ys : List A) → AllByRecursion P (xs ++ ys) → AllByRecursion P xs
+pub left_rec : {A : Type 0} (P : A → Type 0) (xs ys : List A) → AllByRecursion P (xs ++ ys) → AllByRecursion P xs
 left_rec P [] ys h = tt
 left_rec P (x ∷ xs) ys h = (h.0, left_rec P xs ys h.1)
 
-right_rec : {A : Type 0} (P : A → Type 0) (xs ys : List A) → AllByRecursion P (xs ++ ys) → AllByRecursion P ys
+pub right_rec : {A : Type 0} (P : A → Type 0) (xs ys : List A) → AllByRecursion P (xs ++ ys) → AllByRecursion P ys
 right_rec P [] ys h = h
 right_rec P (x ∷ xs) ys h = right_rec P xs ys h.1
 
-of_map : {A : Type 0} (P : ℕ → Type 0) (f : A → ℕ) (xs : List A) → AllByRecursion P (map f xs) → AllByRecursion (λ x. P (f x)) xs
+pub of_map : {A : Type 0} (P : ℕ → Type 0) (f : A → ℕ) (xs : List A) → AllByRecursion P (map f xs) → AllByRecursion (λ x. P (f x)) xs
 of_map P f [] h = tt
 of_map P f (x ∷ xs) h = (h.0, of_map P f xs h.1)
 

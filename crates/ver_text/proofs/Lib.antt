@@ -3,12 +3,15 @@ pub mod Exact
 pub mod Formed
 pub mod Groups
 pub mod Judgements
+pub mod Layouts
+pub mod Lexing
 pub mod Lists
 pub mod Names
 pub mod Literals
 pub mod NetNames
 pub mod Numerals
 pub mod PortParts
+pub mod Printed
 pub mod Readback
 pub mod Refusals
 pub mod Scans
@@ -18,3 +21,4 @@ pub mod Spelled
 pub mod Spells
 pub mod Steps
 pub mod ValueParts
+pub mod Words

@@ -15,7 +15,7 @@ use Rattle.ver_text.specs.Lexemes.{is_digit}
 use Rattle.ver_text.specs.Numerals.{hex_digit, hexadecimal, digit_value, numeral, written, literal, literal_of}
 use Rattle.ver_text.proofs.Readback.{below, bytes_same}
 
-hex_is : (d : ℕ) → d < 16 → digit_value (hex_digit d) ≡ d
+pub hex_is : (d : ℕ) → d < 16 → digit_value (hex_digit d) ≡ d
 hex_is d h = grind (arith, nat_tests)
 
 four_more : (k : ℕ) → 2 ^ (4 + k) ≡ 16 * 2 ^ k
@@ -69,7 +69,7 @@ AreDigits n ds = prefix_len is_digit ds ≡ length ds
 single : (n : ℕ) → n < 10 → AreDigits n ((48 + n) ∷ [])
 single n h = rw (digit_true n h) refl
 
-all_then : (ds cs : List ℕ) → prefix_len is_digit ds ≡ length ds → prefix_len is_digit (ds ++ cs) ≡ length ds + prefix_len is_digit cs
+pub all_then : (ds cs : List ℕ) → prefix_len is_digit ds ≡ length ds → prefix_len is_digit (ds ++ cs) ≡ length ds + prefix_len is_digit cs
 all_then ds cs e = prefix_len-append is_digit ds cs ∙ rw e (rw (same_true (length ds)) refl)
 
 more : (n : ℕ) (ds : List ℕ) → 10 ≤ n → AreDigits (n / 10) ds → AreDigits n (ds ++ ((48 + n % 10) ∷ []))
@@ -77,7 +77,7 @@ more n ds h e =
     let one : prefix_len is_digit ((48 + n % 10) ∷ []) ≡ 1 = rw (digit_true (n % 10) (omega arith)) refl in
     all_then ds ((48 + n % 10) ∷ []) e ∙ (ap (λ x. length ds + x) one ∙ sym (length-append ds ((48 + n % 10) ∷ [])))
 
-decimal_digits : (n : ℕ) → n < 2 ^ 64 → prefix_len is_digit (decimal n) ≡ length (decimal n)
+pub decimal_digits : (n : ℕ) → n < 2 ^ 64 → prefix_len is_digit (decimal n) ≡ length (decimal n)
 decimal_digits n h = decimal_by_steps AreDigits single more n h
 
 behind_width : (ds hex : List ℕ) → prefix_len is_digit ds ≡ length ds → drop (prefix_len is_digit (ds ++ codes "'h" ++ hex) + 2) (ds ++ codes "'h" ++ hex) ≡ hex

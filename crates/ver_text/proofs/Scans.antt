@@ -16,7 +16,7 @@ skipped at zero (c ∷ cs) h = ap (λ n. tokens_at n 0 (c ∷ cs)) (omega arith)
 skipped at (suc n) [] h = absurd (omega arith)
 skipped at (suc n) (c ∷ cs) h = skipped (at + 1) n cs (omega arith) ∙ ap (λ m. tokens_at m 0 (drop n cs)) (omega arith)
 
-first : (at : ℕ) (xs : List ℕ) (l : Lexeme) → 0 < length xs → l ≡ first_lexeme xs → l.more + 1 ≤ length xs
+pub first : (at : ℕ) (xs : List ℕ) (l : Lexeme) → 0 < length xs → l ≡ first_lexeme xs → l.more + 1 ≤ length xs
     → tokens_at at 0 xs ≡ found at l (tokens_at (at + (l.more + 1)) 0 (drop (l.more + 1) xs))
 first at [] l h e k = absurd (omega arith)
 first at (c ∷ cs) l h e k =

@@ -29,7 +29,7 @@ made_read text name is rs cs os s =
     ap (said at_first seen_start) s.signs ∙ spelled_said name is rs cs os (good name is rs cs os s.formed s.names) in
     read_of text name is rs cs os (reads text (tokens_from text 0) at_start (length text) at_first (final name is rs cs os) all)
 
-first_input : (ins : List Port) → slice_get ins 0 ≡ Some reset_port → (is : List Port) × (ins ≡ reset_port ∷ is)
+pub first_input : (ins : List Port) → slice_get ins 0 ≡ Some reset_port → (is : List Port) × (ins ≡ reset_port ∷ is)
 first_input [] e = cc
 first_input (i ∷ is) e = let same : i ≡ reset_port = (cc) in (is, ap (λ x. x ∷ is) same)
 

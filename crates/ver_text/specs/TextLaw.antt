@@ -7,7 +7,7 @@ use Rattle.net_cells.specs.declared.netlist.OutPort.{OutPort}
 use Rattle.net_cells.specs.declared.netlist.Netlist.{Netlist}
 use Rattle.net_cells.specs.Rules.{IsWellFormed}
 use Rattle.ver_text.specs.declared.token.Token.{Token}
-use Rattle.ver_text.specs.Spelling.{Sign, sign, spelling}
+use Rattle.ver_text.specs.Spelling.{Sign, sign, spelling, layout}
 use Rattle.ver_text.specs.Tokens.{text_of, tokens_from}
 use Rattle.ver_text.specs.Reading.{read_text}
 
@@ -34,3 +34,10 @@ SpelledIsRead = (text : List ℕ) (n : Netlist) → Spells text n → read_text 
 -- A text spells at most one netlist.
 abbrev pub SpellsOne : Type 0
 SpellsOne = (text : List ℕ) (n m : Netlist) → Spells text n → Spells text m → n ≡ m
+
+-- The printed text of a well-formed netlist spells it, and is read back as it.
+abbrev pub PrintedSpells : Type 0
+PrintedSpells = (n : Netlist) → IsWellFormed n → HasNames n → Spells (layout n) n
+
+abbrev pub PrintedIsRead : Type 0
+PrintedIsRead = (n : Netlist) → IsWellFormed n → HasNames n → read_text (layout n) ≡ Ok n

@@ -1,6 +1,6 @@
 ghost use Rattle.ver_text.specs.SyntaxLaw.{RefusalIsFirst};
 ghost use Rattle.ver_text.specs.TestLaw.{TestsAreExact};
-ghost use Rattle.ver_text.specs.TextLaw.{SpelledIsRead, SpellsOne};
+ghost use Rattle.ver_text.specs.TextLaw.{PrintedIsRead, PrintedSpells, SpelledIsRead, SpellsOne};
 
 /// The place at which the syntax refuses tokens is that of the first after which no continuation has the
 /// syntax, or
@@ -19,4 +19,11 @@ pub fn tests_law()
 pub fn spelling_law()
     ensures read { SpelledIsRead }
     ensures only { SpellsOne }
+{}
+
+/// The printed text of a well-formed netlist, whose names have the form of names, spells it and is read back
+/// as it.
+pub fn print_law()
+    ensures spells { PrintedSpells }
+    ensures read { PrintedIsRead }
 {}

@@ -19,7 +19,7 @@ mod token;
 mod writing;
 
 pub use fault::TextFault;
-pub use laws::{spelling_law, syntax_law, tests_law};
+pub use laws::{print_law, spelling_law, syntax_law, tests_law};
 pub use printer::{Bytes, print};
 pub use reader::read;
 

@@ -1,4 +1,4 @@
-use crate::{TextFault, print, read, spelling_law, syntax_law, tests_law};
+use crate::{TextFault, print, print_law, read, spelling_law, syntax_law, tests_law};
 use net_cells::well_formed;
 use std::alloc::Global;
 use std::test::Fail;
@@ -120,6 +120,7 @@ fn changes_of_a_counter(rt: HostRuntime) -> Result<(), Fail> {
     syntax_law();
     tests_law();
     spelling_law();
+    print_law();
     Ok(())
 }
 
