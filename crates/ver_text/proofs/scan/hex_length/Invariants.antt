@@ -1,0 +1,10 @@
+use Rattle.std.proofs.Common.{◌≡◌, ◌+◌, drop}
+use Rattle.std.specs.List.{prefix_len}
+use Rattle.ver_text.specs.Lexemes.{is_hex}
+use Rattle.ver_text.proofs.scan.hex_length.Given as goal
+
+abbrev pub invariant-loop-byte : goal.invariant-loop-byte
+invariant-loop-byte l = record {
+  at : l.count ≡ l.byte-index;
+  length : l.count + prefix_len is_hex (drop l.count l.text) ≡ prefix_len is_hex l.text;
+}

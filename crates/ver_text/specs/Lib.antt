@@ -1,0 +1,13 @@
+pub mod Due
+pub mod Fits
+pub mod Grammar
+pub mod Kinds
+pub mod Lexemes
+pub mod Numerals
+pub mod Parts
+pub mod Reading
+pub mod Spelling
+pub mod SyntaxLaw
+pub mod TestLaw
+pub mod TextLaw
+pub mod Tokens

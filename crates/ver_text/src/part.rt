@@ -1,0 +1,135 @@
+ghost use Rattle.std.specs.Prelude.{◌≡◌};
+ghost use Rattle.ver_text.specs.Parts as spec;
+
+use crate::grammar::{State, behind, next_rule};
+use crate::kind::{Kind, Rule};
+use crate::token::Token;
+
+/// A part of a text: the module's name, a port, an item or the end.
+#[derive(Clone, Copy, Debug, PartialEq, Eq)]
+pub struct Part {
+    /// Its first token.
+    pub head: Token,
+    /// The first token of its last construct.
+    pub form: Kind,
+    /// The last name, number or literal but three.
+    pub fourth: Token,
+    /// The last but two.
+    pub third: Token,
+    /// The last but one.
+    pub second: Token,
+    /// The last.
+    pub last: Token,
+}
+
+/// How far a text was read.
+#[derive(Clone, Copy, Debug, PartialEq, Eq)]
+pub struct Cursor {
+    /// What was read of its syntax.
+    pub state: State,
+    /// What was read of the part.
+    pub part: Part,
+}
+
+fn is_done(state: State) -> bool
+    ensures { result ≡ spec.is_done state }
+{
+    behind(state.first).len() <= state.done
+}
+
+fn opens(state: State) -> bool
+    ensures { result ≡ spec.opens state }
+{
+    (matches!(state.first, Kind::Module) && state.done == 0)
+        || (is_done(state) && matches!(next_rule(state.first), Rule::Port | Rule::Item))
+}
+
+fn closes(kind: Kind) -> bool
+    ensures { result ≡ spec.closes kind }
+{
+    !matches!(
+        kind,
+        Kind::Comma | Kind::CloseParen | Kind::Assign | Kind::Name | Kind::Gap
+    )
+}
+
+impl Part {
+    fn with_head(self, is_first: bool, token: Token) -> Part
+        ensures { result ≡ spec.with_head is_first self token }
+    {
+        if is_first {
+            return Part {
+                head: token,
+                ..self
+            };
+        }
+        self
+    }
+
+    fn with_word(self, token: Token) -> Part
+        ensures { result ≡ spec.with_word self token }
+    {
+        if !token.kind.is_word() {
+            return self;
+        }
+        Part {
+            fourth: self.third,
+            third: self.second,
+            second: self.last,
+            last: token,
+            ..self
+        }
+    }
+
+    fn with_form(self, form: Kind) -> Part
+        ensures { result ≡ spec.with_form self form }
+    {
+        Part { form, ..self }
+    }
+}
+
+impl Cursor {
+    /// Before the first token.
+    pub fn at_start() -> Cursor
+        ensures { result ≡ spec.at_start }
+    {
+        let none = Token {
+            kind: Kind::Gap,
+            start: 0,
+            length: 0,
+        };
+        Cursor {
+            state: State::start(),
+            part: Part {
+                head: none,
+                form: Kind::Gap,
+                fourth: none,
+                third: none,
+                second: none,
+                last: none,
+            },
+        }
+    }
+
+    /// After one more token. A token that can't come there changes nothing.
+    #[tactic(auto, unfolding(crate::specs::Parts::moved))]
+    pub fn moved(self, token: Token) -> Cursor
+        ensures { result ≡ spec.moved self token }
+    {
+        let Some(state) = self.state.step(token.kind) else {
+            return self;
+        };
+        let part = self.part.with_head(opens(self.state), token);
+        Cursor {
+            state,
+            part: part.with_word(token).with_form(state.first),
+        }
+    }
+
+    /// Whether the token just read was the last of a part, or the one behind the module's name.
+    pub fn ends(self) -> bool
+        ensures { result ≡ spec.ends self.state }
+    {
+        is_done(self.state) && closes(self.state.first)
+    }
+}
