@@ -2,3 +2,4 @@ pub mod Words
 pub mod Designs
 pub mod Printing
 pub mod Answers
+pub mod TestRules

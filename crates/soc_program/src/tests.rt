@@ -1,9 +1,18 @@
+ghost use Rattle.std.specs.Prelude.{◌≡◌, IfOk};
+ghost use Rattle.dip_sets.specs.SizeRanges.{size_range};
+ghost use Rattle.soc_program.specs.TestRules as spec;
+
 use crate::top::soc;
+use dip_checks::check_design;
 use dip_io::{MemFiles, MemOut};
-use dip_lists::Memory;
+use dip_lists::{Items, Memory};
+use dip_rule::{Rule, RuleEntry, RuleFault, Rules};
+use dip_sets::{Name, Sizes};
+use soc_design::read_design;
 use soc_report::Status;
 use std::alloc::Global;
 use std::test::Fail;
+use tl_params::{Args, DownPort, Ops, Slave, Slaves, Template, UpPort, copy_down};
 use tl_rules::boxed_standard_rules;
 
 const SMALLEST: &str = "version = 1
@@ -194,6 +203,146 @@ fn agrees_across_nodes(rt: HostRuntime) -> Result<(), Fail> {
         map(alloc, text.as_str().as_bytes(), &mut out)?;
         assert!(rt; out.bytes() == printed.as_bytes());
     }
+    Ok(())
+}
+
+// Gives on what comes down, and narrows the reads of what comes up to 4 bytes.
+#[derive(Drop)]
+struct Narrow {
+    alloc: Global,
+}
+
+fn narrow_ops(ops: &Ops, reads: Sizes) -> Ops
+    requires { reads ≡ size_range 1 4 }
+    ensures { result ≡ spec.narrow_ops ops.now }
+{
+    Ops {
+        get: ops.get.meet(&reads),
+        put_full: ops.put_full,
+        put_partial: ops.put_partial,
+        arithmetic: ops.arithmetic,
+        logical: ops.logical,
+        intent: ops.intent,
+    }
+}
+
+fn narrow_slave(alloc: Global, slave: &Slave, reads: Sizes) -> Result<Slave, Memory>
+    requires { reads ≡ size_range 1 4 }
+    ensures { IfOk result (λ narrow. narrow ≡ spec.narrow_slave slave.now) }
+{
+    Ok(Slave {
+        node: slave.node,
+        port: slave.port,
+        addresses: slave.addresses.copy(alloc)?,
+        supports: narrow_ops(&slave.supports, reads),
+    })
+}
+
+fn narrow_slaves(alloc: Global, slaves: &[Slave], reads: Sizes) -> Result<Slaves, Memory>
+    requires { reads ≡ size_range 1 4 }
+    ensures { IfOk result (λ narrow. narrow ≡ spec.narrow_slaves slaves.now) }
+{
+    let mut narrow = Items::new(alloc);
+    for slave in slaves {
+        narrow.push(narrow_slave(alloc, slave, reads)?)?;
+    }
+    Ok(narrow)
+}
+
+impl Rule for Narrow {
+    ghost says_down = { λ s. spec.first_down };
+
+    ghost says_up = { λ s. spec.narrow_up };
+
+    fn down(&self, _args: &Args, ins: &[DownPort]) -> Result<DownPort, RuleFault> {
+        match ins.first() {
+            Some(port) => Ok(copy_down(self.alloc, port)?),
+            None => Err(RuleFault::Refused(9)),
+        }
+    }
+
+    fn up(&self, _args: &Args, outs: &[UpPort]) -> Result<UpPort, RuleFault> {
+        let Some(reads) = Sizes::new(1, 4) else {
+            return Err(RuleFault::Memory);
+        };
+        match outs.first() {
+            Some(port) => Ok(UpPort {
+                slaves: narrow_slaves(self.alloc, port.slaves.as_slice(), reads)?,
+                beat: port.beat,
+            }),
+            None => Err(RuleFault::Refused(9)),
+        }
+    }
+}
+
+// Refuses whatever comes down.
+#[derive(Drop)]
+struct Never {
+    alloc: Global,
+}
+
+impl Rule for Never {
+    ghost says_down = { λ s. spec.never_down };
+
+    ghost says_up = { λ s. spec.narrow_up };
+
+    fn down(&self, _args: &Args, _ins: &[DownPort]) -> Result<DownPort, RuleFault> {
+        Err(RuleFault::Refused(7))
+    }
+
+    fn up(&self, args: &Args, outs: &[UpPort]) -> Result<UpPort, RuleFault> {
+        Narrow { alloc: self.alloc }.up(args, outs)
+    }
+}
+
+// The answer by one rule of this kind.
+fn map_by(
+    alloc: Global,
+    kind: &str,
+    rule: Box<dyn Rule>,
+    out: &mut MemOut,
+) -> Result<Status, Fail> {
+    let mut entries = Items::new(alloc);
+    entries.push(RuleEntry {
+        kind: Name::new(alloc, kind)?.ok_or("a kind")?,
+        template: Template::Buffer,
+        rule,
+    })?;
+    let rules = Rules { entries };
+    let line = "{to = \"x\", from = \"core\"}, {to = \"ram\", from = \"x\"}";
+    let between = format!(in alloc; "{{name = \"x\", kind = \"{kind}\"}}")?;
+    let text = chip(alloc, 1, between.as_str(), line)?;
+    let mut files = MemFiles::new(alloc);
+    files.set("a.toml", text.as_str().as_bytes())?;
+    let words = words(alloc, &["map", "a.toml"])?;
+    Ok(soc(alloc, words.as_slice(), &mut files, out, &rules))
+}
+
+#[test]
+fn takes_rules_that_are_handed_in(rt: HostRuntime) -> Result<(), Fail> {
+    let alloc = rt.alloc();
+    let narrow: Box<dyn Rule> = Box::new(alloc, Narrow { alloc })?;
+    let mut out = MemOut::new(alloc, 300);
+    map_by(alloc, "narrow", narrow, &mut out)?;
+    let map = "design chip edges 2\nport core.0 ids 1 beat 8\n  1000 fff ram.0 get=1-4\n";
+    assert!(rt; out.bytes() == map.as_bytes());
+    let never: Box<dyn Rule> = Box::new(alloc, Never { alloc })?;
+    let mut out = MemOut::new(alloc, 300);
+    map_by(alloc, "never", never, &mut out)?;
+    assert!(rt; out.bytes() == b"refused 11 1\n".as_slice());
+    Ok(())
+}
+
+#[test]
+fn a_crossbar_shows_all_masters(rt: HostRuntime) -> Result<(), Fail> {
+    let alloc = rt.alloc();
+    let binds = "{to = \"x\", from = \"core\", kind = \":=*\"}, {to = \"ram\", from = \"x\"}";
+    let text = chip(alloc, 2, "{name = \"x\", kind = \"xbar\"}", binds)?;
+    let design = read_design(alloc, text.as_str().as_bytes())?;
+    let rules = boxed_standard_rules!(alloc);
+    let accepted = check_design(alloc, &design, &rules)?;
+    let down = accepted.solution.down.get(2).ok_or("a third edge")?;
+    assert_eq!(rt; down.masters.len(), 2);
     Ok(())
 }
 
