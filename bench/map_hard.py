@@ -1,0 +1,76 @@
+#!/usr/bin/env python3
+"""Times `map` on two designs that are meant to be hard, and prints what it answers and takes.
+
+    bench/map_hard.py
+
+`wide` has many address sets on many edges, `doubling` asks for more slaves than any machine holds.
+"""
+
+import resource
+import subprocess
+import sys
+import tempfile
+from pathlib import Path
+
+TOP = Path(__file__).resolve().parent.parent
+PROGRAM = TOP / "crates/soc_program/out/soc_program"
+SOURCE = '{name = "s%d", kind = "source", ids = 1, emits = {get = [1, 8]}}'
+
+
+def bind(to, source, kind=":="):
+    return '{to = "%s", from = "%s", kind = "%s"}' % (to, source, kind)
+
+
+def design(nodes, binds):
+    return 'version = 1\nname = "hard"\nnode = [%s]\nbind = [%s]\n' % (",\n".join(nodes), ",\n".join(binds))
+
+
+def wide(crossbars=117, sinks=8):
+    """Two sources, crossbars in a row, and sinks of 64 ports with 16 sets each behind the last of them."""
+    nodes = [SOURCE % 0, SOURCE % 1] + ['{name = "x%d", kind = "xbar"}' % k for k in range(crossbars)]
+    binds = [bind("x0", "s0"), bind("x0", "s1")] + [bind("x%d" % (k + 1), "x%d" % k) for k in range(crossbars - 1)]
+    for k in range(sinks):
+        ports = []
+        for port in range(64):
+            first = (k * 64 + port) * 16
+            ports.append("[%s]" % ",".join("[%d, 15]" % ((first + n) * 16) for n in range(16)))
+        nodes.append('{name = "r%d", kind = "sink", beat = 8, addresses = [%s], supports = {get = [1, 8]}}' % (k, ",".join(ports)))
+        binds.append(bind("r%d" % k, "x%d" % (crossbars - 1), ":*="))
+    return design(nodes, binds)
+
+
+def doubling(steps=126):
+    """Crossbars and shrinkers in turn, each step bound twice: each crossbar shows twice the slaves of the next."""
+    nodes = [SOURCE % 0, '{name = "x0", kind = "xbar"}']
+    binds = [bind("x0", "s0")]
+    for k in range(1, steps + 1):
+        nodes += ['{name = "h%d", kind = "shrinker", args = [1]}' % k, '{name = "x%d", kind = "xbar"}' % k]
+        binds += [bind("h%d" % k, "x%d" % (k - 1))] * 2 + [bind("x%d" % k, "h%d" % k)] * 2
+    nodes.append('{name = "r", kind = "sink", beat = 8, addresses = [[[0x1000, 0xfff]]], supports = {get = [1, 8]}}')
+    binds.append(bind("r", "x%d" % steps))
+    return design(nodes, binds)
+
+
+def run(name, text):
+    with tempfile.NamedTemporaryFile("w", suffix=".toml") as file:
+        file.write(text)
+        file.flush()
+        before = resource.getrusage(resource.RUSAGE_CHILDREN)
+        answer = subprocess.run([PROGRAM, "map", file.name], stdout=subprocess.PIPE)
+        after = resource.getrusage(resource.RUSAGE_CHILDREN)
+    line = answer.stdout.decode().split("\n")[0]
+    seconds = after.ru_utime + after.ru_stime - before.ru_utime - before.ru_stime
+    print("%9s  exit %d  %-24s %6.2f s  at most %5d MB" % (name, answer.returncode, line, seconds, after.ru_maxrss // 1024))
+
+
+def main():
+    if len(sys.argv) > 1:
+        sys.exit("usage: bench/map_hard.py")
+    if not PROGRAM.exists():
+        subprocess.run([TOP / "soc", "map", TOP / "examples/one.toml"], stdout=subprocess.DEVNULL, check=True)
+    run("wide", wide())
+    run("doubling", doubling())
+
+
+if __name__ == "__main__":
+    main()
