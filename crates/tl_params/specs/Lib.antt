@@ -1,2 +1,4 @@
+pub mod Arguments
+pub mod Carried
 pub mod Operations
 pub mod Owners

@@ -12,11 +12,13 @@ use Rattle.tl_params.specs.declared.ports.Slave.{Slave}
 use Rattle.tl_params.specs.declared.ports.DownPort.{DownPort}
 use Rattle.tl_params.specs.declared.ports.UpPort.{UpPort}
 use Rattle.tl_rules.specs.Refusals.{with_arguments}
-use Rattle.tl_rules.specs.Adapters.{is_width, width_argument, buffer_down, buffer_up, width_down, width_up}
-use Rattle.tl_rules.specs.Fragments.{widened, widened_slave, cut_master, fragment_arguments, fragmenter_down, fragmenter_up}
-use Rattle.tl_rules.specs.Shrinks.{shrink_argument, shrunk_port, shrinker_down, shrinker_up}
+use Rattle.tl_params.specs.Arguments.{is_width, fragment_arguments, shrink_argument}
+use Rattle.tl_rules.specs.Adapters.{width_argument, buffer_down, buffer_up, width_down, width_up}
+use Rattle.tl_rules.specs.Fragments.{widened, widened_slave, cut_master, fragmenter_down, fragmenter_up}
+use Rattle.tl_rules.specs.Shrinks.{shrunk_port, shrinker_down, shrinker_up}
 use Rattle.tl_rules.specs.Crossbars.{id_count, is_id_count, has_ids, is_usable, are_usable, input_ranges, joined_masters, joined_port, xbar_down, xbar_up}
-use Rattle.tl_rules.specs.Fits.{is_same_slave, fits_pieces, sizes_fit, ops_fit, slaves_fit, has_same_ids, same_ids, has_only_ids, edge_ports, adapter_fits, inputs_fit, outputs_fit}
+use Rattle.tl_params.specs.Carried.{is_same_slave, fits_pieces, sizes_fit, ops_fit, slaves_fit}
+use Rattle.tl_rules.specs.Fits.{has_same_ids, same_ids, has_only_ids, edge_ports, adapter_fits, inputs_fit, outputs_fit}
 use Rattle.tl_rules.specs.RulesFit.{RulesFitLaw}
 use Rattle.tl_rules.proofs.Crossing.{and_left, and_right, usable_parts}
 use Rattle.tl_rules.proofs.Going.{and_true, or_true}

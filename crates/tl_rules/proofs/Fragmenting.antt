@@ -3,7 +3,8 @@ use Rattle.std.proofs.Common.{ℕ, ◌≡◌, ◌≢◌, ◌<◌, ◌≤◌, inl
 use Rattle.std.proofs.lemmas.Bool.Decides.{nat_tests}
 use Rattle.dip_sets.specs.SizeRanges.{SizeRange, size_range, is_size_range, IsSizePair, has_size, meet, cover}
 use Rattle.dip_sets.proofs.Ranges.{size_pair_is, range_cases, has_size_is}
-use Rattle.tl_rules.specs.Fragments.{AreFragments, cut, widened}
+use Rattle.tl_params.specs.Arguments.{AreFragments}
+use Rattle.tl_rules.specs.Fragments.{cut, widened}
 
 -- 1 and a piece are a pair of sizes
 pub small_pair : (f : SizeRange) (piece : ℕ) → AreFragments f → piece ≡ f.min → IsSizePair 1 piece

@@ -6,8 +6,9 @@ use Rattle.std.proofs.lemmas.Bool.Decides.{Decides-eqb}
 use Rattle.dip_sets.specs.SizeRanges.{SizeRange, size_range, is_size_range, IsSizePair, HasSize, has_size, is_within, meet, no_sizes}
 use Rattle.dip_sets.proofs.Powers.{power_pos}
 use Rattle.dip_sets.proofs.Ranges.{size_pair_is, range_cases, has_size_is, within_is}
-use Rattle.tl_rules.specs.Fragments.{AreFragments, cut, widened}
-use Rattle.tl_rules.specs.Fits.{fits_pieces}
+use Rattle.tl_params.specs.Arguments.{AreFragments}
+use Rattle.tl_rules.specs.Fragments.{cut, widened}
+use Rattle.tl_params.specs.Carried.{fits_pieces}
 use Rattle.tl_rules.specs.Pieces.{GoOn, Arrives, PiecesLaw}
 use Rattle.tl_rules.proofs.Crossing.{and_left, and_right}
 

@@ -8,7 +8,8 @@ use Rattle.tl_params.specs.declared.ports.Slave.{Slave}
 use Rattle.tl_params.specs.declared.ports.DownPort.{DownPort}
 use Rattle.tl_params.specs.declared.ports.UpPort.{UpPort}
 use Rattle.tl_rules.specs.Crossbars.{id_count, shifted_master, joined_masters}
-use Rattle.tl_rules.specs.Fits.{slave_fits, slaves_fit, has_same_ids, same_ids, up_at, down_at}
+use Rattle.tl_params.specs.Carried.{slave_fits, slaves_fit}
+use Rattle.tl_rules.specs.Fits.{has_same_ids, same_ids, up_at, down_at}
 use Rattle.tl_rules.proofs.Zips.{left_fails, left_passes, right_fails, right_passes, first_stands_for_all}
 
 -- the slaves of some outputs

@@ -5,7 +5,8 @@ use Rattle.std.proofs.lemmas.Bool.Decides.{Decides-eqb}
 use Rattle.dip_sets.specs.Sets.{Pattern}
 use Rattle.tl_params.specs.declared.ports.Master.{Master}
 use Rattle.tl_params.specs.declared.ports.DownPort.{DownPort}
-use Rattle.tl_rules.specs.Fits.{all_zip, is_same_set, has_same_ids, same_ids}
+use Rattle.tl_params.specs.Carried.{all_zip, is_same_set}
+use Rattle.tl_rules.specs.Fits.{has_same_ids, same_ids}
 use Rattle.tl_rules.proofs.Crossing.{and_left, and_right}
 
 and_assoc : (a b c : Bool) → (a && (b && c)) ≡ ((a && b) && c)

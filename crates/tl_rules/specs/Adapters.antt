@@ -1,8 +1,9 @@
 -- What buffers and width adapters state. They take one port, and only the width of the bus differs.
-use Rattle.std.specs.Prelude.{ℕ, List, [], ◌∷◌, Bool, ◌||◌, ◌==◌, cond, Option, Some, None, Ok, Err}
+use Rattle.std.specs.Prelude.{ℕ, List, [], ◌∷◌, cond, Option, Some, None, Ok, Err}
 use Rattle.dip_rule.specs.Stated.{StatedAnswer}
 use Rattle.tl_params.specs.declared.ports.DownPort.{DownPort}
 use Rattle.tl_params.specs.declared.ports.UpPort.{UpPort}
+use Rattle.tl_params.specs.Arguments.{is_width}
 use Rattle.tl_rules.specs.Refusals.{only, with_arguments, with_port}
 
 -- ---- a buffer: no arguments, and the port as it is
@@ -16,10 +17,6 @@ buffer_up [] outs = with_port (only outs) (λ port. Ok port)
 buffer_up (arg ∷ args) outs = Err 1
 
 -- ---- a width adapter: one argument, the width of the bus on its in side
-
--- the widths that a bus may have, in bytes
-abbrev pub is_width : ℕ → Bool
-is_width bytes = bytes == 1 || bytes == 2 || bytes == 4 || bytes == 8
 
 abbrev pub width_argument : List ℕ → Option ℕ
 width_argument [] = None

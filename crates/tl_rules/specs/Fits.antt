@@ -1,63 +1,18 @@
 -- Whether what is built for a node fits the ports of its edges: it can carry what they agree on.
 use Rattle.std.specs.Prelude.{ℕ, List, [], ◌∷◌, map, length, Bool, true, false, ◌&&◌, ◌||◌, ◌==◌, nat_lt, nat_le, cond, Option, Some, None, slice_get, unwrap_or}
 use Rattle.std.specs.List.{list_all, flat_map}
-use Rattle.dip_sets.specs.Sets.{Pattern}
-use Rattle.dip_sets.specs.SizeRanges.{SizeRange, size_range, has_size, is_within, meet}
+use Rattle.dip_sets.specs.SizeRanges.{SizeRange, size_range}
 use Rattle.tl_params.specs.Operations.{is_nexus}
-use Rattle.tl_params.specs.declared.ops.Ops.{Ops}
 use Rattle.tl_params.specs.declared.ops.Template.{Template}
 use Rattle.tl_params.specs.declared.ops.Template.TheVariants.{Buffer, Width, Fragmenter, Shrinker, Xbar}
 use Rattle.tl_params.specs.declared.ports.Master.{Master}
-use Rattle.tl_params.specs.declared.ports.Slave.{Slave}
 use Rattle.tl_params.specs.declared.ports.DownPort.{DownPort}
 use Rattle.tl_params.specs.declared.ports.UpPort.{UpPort}
-use Rattle.tl_rules.specs.Adapters.{is_width}
-use Rattle.tl_rules.specs.Fragments.{fragment_arguments}
-use Rattle.tl_rules.specs.Shrinks.{shrink_argument}
+use Rattle.tl_params.specs.Carried.{all_zip, slaves_fit}
+use Rattle.tl_params.specs.Arguments.{is_width, fragment_arguments, shrink_argument}
 use Rattle.tl_rules.specs.Crossbars.{id_count, is_id_count, input_ranges, joined_masters}
 
--- two lists are equally long, and a test holds at each place
-abbrev pub all_zip : {A B : Type 0} → (A → B → Bool) → List A → List B → Bool
-all_zip test [] [] = true
-all_zip test [] (y ∷ ys) = false
-all_zip test (x ∷ xs) [] = false
-all_zip test (x ∷ xs) (y ∷ ys) = test x y && all_zip test xs ys
-
--- ---- slaves: both edges show the same ones in the same order
-
-abbrev pub is_same_set : Pattern → Pattern → Bool
-is_same_set s t = s.base == t.base && s.mask == t.mask
-
-abbrev pub is_same_slave : Slave → Slave → Bool
-is_same_slave s t = s.node == t.node && s.port == t.port && all_zip is_same_set s.addresses t.addresses
-
--- ---- supports: the in edge promises no more than the out edge
-
--- sizes that are cut: those up to a piece go on as they are, and larger ones as pieces. The pieces are the sizes from 1 to a piece.
-abbrev pub fits_pieces : SizeRange → SizeRange → SizeRange → Bool
-fits_pieces pieces s t = is_within (meet s pieces) t && (nat_le s.max pieces.max || has_size t pieces.max)
-
--- sizes that are cut into pieces, or where there are none pass whole
-abbrev pub sizes_fit : Option SizeRange → SizeRange → SizeRange → Bool
-sizes_fit None s t = is_within s t
-sizes_fit (Some pieces) s t = fits_pieces pieces s t
-
-abbrev pub ops_fit : Option SizeRange → Ops → Ops → Bool
-ops_fit pieces s t =
-    sizes_fit pieces s.get t.get
-    && sizes_fit pieces s.put_full t.put_full
-    && sizes_fit pieces s.put_partial t.put_partial
-    && is_within s.arithmetic t.arithmetic
-    && is_within s.logical t.logical
-    && is_within s.intent t.intent
-
-abbrev pub slave_fits : Option SizeRange → Slave → Slave → Bool
-slave_fits pieces s t = is_same_slave s t && ops_fit pieces s.supports t.supports
-
-abbrev pub slaves_fit : Option SizeRange → List Slave → List Slave → Bool
-slaves_fit pieces shown real = all_zip (slave_fits pieces) shown real
-
--- ---- ids
+-- ---- ids: those of both edges, in order
 
 abbrev pub has_same_ids : Master → Master → Bool
 has_same_ids a b = a.ids.start == b.ids.start && a.ids.end == b.ids.end

@@ -1,24 +1,14 @@
 -- What fragmenters state. A fragmenter cuts gets and puts of more than a piece into pieces; atomics and intents pass whole.
-use Rattle.std.specs.Prelude.{ℕ, List, [], ◌∷◌, map, ◌==◌, nat_lt, cond, max, min, IsTrue, Option, Some, None, Ok}
-use Rattle.dip_sets.specs.SizeRanges.{SizeRange, size_range, is_size_pair, has_size, meet}
+use Rattle.std.specs.Prelude.{ℕ, List, map, ◌==◌, nat_lt, cond, max, min, Ok}
+use Rattle.dip_sets.specs.SizeRanges.{SizeRange, size_range, has_size, meet}
 use Rattle.dip_rule.specs.Stated.{StatedAnswer}
 use Rattle.tl_params.specs.declared.ops.Ops.{Ops}
 use Rattle.tl_params.specs.declared.ports.Master.{Master}
 use Rattle.tl_params.specs.declared.ports.Slave.{Slave}
 use Rattle.tl_params.specs.declared.ports.DownPort.{DownPort}
 use Rattle.tl_params.specs.declared.ports.UpPort.{UpPort}
+use Rattle.tl_params.specs.Arguments.{fragment_arguments}
 use Rattle.tl_rules.specs.Refusals.{only, with_arguments, with_port}
-
--- two arguments, the bytes of a piece and of the largest transfer: powers of two in order, at most 256. They are seen as the sizes from
--- the one to the other.
-abbrev pub fragment_arguments : List ℕ → Option SizeRange
-fragment_arguments [] = None
-fragment_arguments (piece ∷ []) = None
-fragment_arguments (piece ∷ largest ∷ []) = cond (is_size_pair piece largest) (Some (size_range piece largest)) None
-fragment_arguments (piece ∷ largest ∷ other ∷ more) = None
-
-abbrev pub AreFragments : SizeRange → Type 0
-AreFragments fragments = IsTrue (is_size_pair fragments.min fragments.max)
 
 -- sizes behind the fragmenter: a larger one than a piece arrives as pieces
 abbrev pub cut : ℕ → SizeRange → SizeRange

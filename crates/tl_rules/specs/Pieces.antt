@@ -1,8 +1,9 @@
 -- What a fragmenter's sizes are good for: what it takes goes on as it is or in pieces, and what its rule shows fits it.
 use Rattle.std.specs.Prelude.{ℕ, ◌≡◌, ◌<◌, ◌≤◌, ◌↔◌, ◌⊎◌, IsTrue}
 use Rattle.dip_sets.specs.SizeRanges.{SizeRange, size_range, is_size_range, HasSize}
-use Rattle.tl_rules.specs.Fragments.{AreFragments, cut, widened}
-use Rattle.tl_rules.specs.Fits.{fits_pieces}
+use Rattle.tl_params.specs.Arguments.{AreFragments}
+use Rattle.tl_rules.specs.Fragments.{cut, widened}
+use Rattle.tl_params.specs.Carried.{fits_pieces}
 
 -- each size that is taken can go on: one of at most a piece as it is, and a larger one as pieces
 abbrev pub GoOn : ℕ → SizeRange → SizeRange → Type 0

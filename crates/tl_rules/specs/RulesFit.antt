@@ -4,8 +4,9 @@ use Rattle.dip_sets.specs.SizeRanges.{SizeRange}
 use Rattle.tl_params.specs.declared.ops.Template.TheVariants.{Buffer, Width, Fragmenter, Shrinker}
 use Rattle.tl_params.specs.declared.ports.DownPort.{DownPort}
 use Rattle.tl_params.specs.declared.ports.UpPort.{UpPort}
-use Rattle.tl_rules.specs.Adapters.{is_width, buffer_down, buffer_up, width_down, width_up}
-use Rattle.tl_rules.specs.Fragments.{fragment_arguments, fragmenter_down, fragmenter_up}
+use Rattle.tl_params.specs.Arguments.{is_width, fragment_arguments}
+use Rattle.tl_rules.specs.Adapters.{buffer_down, buffer_up, width_down, width_up}
+use Rattle.tl_rules.specs.Fragments.{fragmenter_down, fragmenter_up}
 use Rattle.tl_rules.specs.Shrinks.{shrinker_down, shrinker_up}
 use Rattle.tl_rules.specs.Crossbars.{xbar_down, xbar_up}
 use Rattle.tl_rules.specs.Fits.{edge_ports, adapter_fits, inputs_fit, outputs_fit}

@@ -1,18 +1,13 @@
 -- What shrinkers state. A shrinker shows all masters as one with few ids.
-use Rattle.std.specs.Prelude.{ℕ, List, [], ◌∷◌, ◌&&◌, nat_le, cond, Option, Some, None, Result, Ok, Err}
+use Rattle.std.specs.Prelude.{ℕ, List, [], ◌∷◌, Result, Ok, Err}
 use Rattle.dip_sets.specs.SizeRanges.{cover}
 use Rattle.dip_rule.specs.Stated.{StatedAnswer}
 use Rattle.tl_params.specs.declared.ops.Ops.{Ops}
 use Rattle.tl_params.specs.declared.ports.Master.{Master}
 use Rattle.tl_params.specs.declared.ports.DownPort.{DownPort}
 use Rattle.tl_params.specs.declared.ports.UpPort.{UpPort}
+use Rattle.tl_params.specs.Arguments.{shrink_argument}
 use Rattle.tl_rules.specs.Refusals.{only, with_arguments, with_port}
-
--- one argument, the number of ids: 1 to 64
-abbrev pub shrink_argument : List ℕ → Option ℕ
-shrink_argument [] = None
-shrink_argument (ids ∷ []) = cond (nat_le 1 ids && nat_le ids 64) (Some ids) None
-shrink_argument (ids ∷ other ∷ more) = None
 
 -- of each operation the least range that has the sizes of both
 abbrev pub cover_ops : Ops → Ops → Ops

@@ -1,7 +1,7 @@
 ghost use Rattle.std.specs.Prelude.{◌≡◌, ◌<◌, ◌≤◌, ◌&&◌, nat_lt, length, take, None, All, IsTrue};
+ghost use Rattle.tl_params.specs.Carried as carried;
 ghost use Rattle.tl_rules.specs.Fits as spec;
-ghost use Rattle.tl_rules.specs.Fragments.{fragment_arguments};
-ghost use Rattle.tl_rules.specs.Shrinks.{shrink_argument};
+ghost use Rattle.tl_params.specs.Arguments.{fragment_arguments, shrink_argument};
 
 use crate::fit_xbar::{inputs_fit, outputs_fit};
 use crate::fragmenter::{fragment_arguments, up_to_piece};
@@ -13,13 +13,13 @@ use tl_params::{Args, DownPort, Master, Ops, Slave, Template, UpPort};
 
 // Sizes that are cut into pieces fit those behind the cut.
 fn fits_pieces(pieces: &Sizes, sizes: &Sizes, real: &Sizes) -> bool
-    ensures { result ≡ spec.fits_pieces pieces.now sizes.now real.now }
+    ensures { result ≡ carried.fits_pieces pieces.now sizes.now real.now }
 {
     sizes.meet(pieces).within(real) && (sizes.max() <= pieces.max() || real.contains(pieces.max()))
 }
 
 fn sizes_fit(pieces: &Option<Sizes>, sizes: &Sizes, real: &Sizes) -> bool
-    ensures { result ≡ spec.sizes_fit pieces.now sizes.now real.now }
+    ensures { result ≡ carried.sizes_fit pieces.now sizes.now real.now }
 {
     match pieces {
         None => sizes.within(real),
@@ -28,7 +28,7 @@ fn sizes_fit(pieces: &Option<Sizes>, sizes: &Sizes, real: &Sizes) -> bool
 }
 
 fn ops_fit(pieces: &Option<Sizes>, ops: &Ops, real: &Ops) -> bool
-    ensures { result ≡ spec.ops_fit pieces.now ops.now real.now }
+    ensures { result ≡ carried.ops_fit pieces.now ops.now real.now }
 {
     sizes_fit(pieces, &ops.get, &real.get)
         && sizes_fit(pieces, &ops.put_full, &real.put_full)
@@ -39,25 +39,25 @@ fn ops_fit(pieces: &Option<Sizes>, ops: &Ops, real: &Ops) -> bool
 }
 
 fn same_addresses(slave: &Slave, real: &Slave) -> bool
-    ensures { result ≡ spec.all_zip spec.is_same_set slave.now.addresses real.now.addresses }
+    ensures { result ≡ carried.all_zip carried.is_same_set slave.now.addresses real.now.addresses }
 {
     slave.addresses.same(&real.addresses)
 }
 
 fn is_same_slave(slave: &Slave, real: &Slave) -> bool
-    ensures { result ≡ spec.is_same_slave slave.now real.now }
+    ensures { result ≡ carried.is_same_slave slave.now real.now }
 {
     slave.node == real.node && slave.port == real.port && same_addresses(slave, real)
 }
 
 fn slave_fits(pieces: &Option<Sizes>, slave: &Slave, real: &Slave) -> bool
-    ensures { result ≡ spec.slave_fits pieces.now slave.now real.now }
+    ensures { result ≡ carried.slave_fits pieces.now slave.now real.now }
 {
     is_same_slave(slave, real) && ops_fit(pieces, &slave.supports, &real.supports)
 }
 
 fn slaves_fit(pieces: &Option<Sizes>, slaves: &[Slave], real: &[Slave]) -> bool
-    ensures { result ≡ spec.slaves_fit pieces.now slaves.now real.now }
+    ensures { result ≡ carried.slaves_fit pieces.now slaves.now real.now }
 {
     if slaves.len() != real.len() {
         return false;
@@ -72,7 +72,7 @@ fn slaves_fit(pieces: &Option<Sizes>, slaves: &[Slave], real: &[Slave]) -> bool
 
 /// Whether the first of some slaves fit others.
 pub fn begin_with(slaves: &[Slave], real: &[Slave]) -> bool
-    ensures value { result ≡ spec.slaves_fit None (take (length real.now) slaves.now) real.now }
+    ensures value { result ≡ carried.slaves_fit None (take (length real.now) slaves.now) real.now }
     ensures long { IsTrue result → length real.now ≤ length slaves.now }
 {
     if slaves.len() < real.len() {
@@ -114,7 +114,7 @@ fn has_only_ids(ids: u32, masters: &[Master]) -> bool
 
 // What a buffer, a width adapter and a shrinker ask of the slaves of an in edge and of its out edge.
 fn same_slaves(above: &UpPort, below: &UpPort) -> bool
-    ensures { result ≡ spec.slaves_fit None above.now.slaves below.now.slaves }
+    ensures { result ≡ carried.slaves_fit None above.now.slaves below.now.slaves }
 {
     slaves_fit(&None, above.slaves.as_slice(), below.slaves.as_slice())
 }
@@ -262,7 +262,7 @@ fn adapters_fit(
     requires ins_up { All (λ edge. edge < length up.now) ins.now }
     requires outs_down { All (λ edge. edge < length down.now) outs.now }
     requires outs_up { All (λ edge. edge < length up.now) outs.now }
-    ensures { result ≡ spec.all_zip (λ above below. spec.adapter_fits template args.now
+    ensures { result ≡ carried.all_zip (λ above below. spec.adapter_fits template args.now
         (spec.edge_at down.now up.now above) (spec.edge_at down.now up.now below)) ins.now outs.now }
 {
     if ins.len() != outs.len() {

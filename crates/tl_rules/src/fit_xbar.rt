@@ -2,6 +2,7 @@ ghost use Rattle.std.specs.Prelude.{◌≡◌, ◌<◌, ◌≤◌, length, map, 
 ghost use Rattle.std.specs.List.{flat_map, list_all};
 ghost use Rattle.dip_sets.specs.Assignments.{goes_first, rounded, sum_before};
 ghost use Rattle.tl_rules.specs.Crossbars.{id_count, is_id_count, input_ranges, joined_masters, shifted_master};
+ghost use Rattle.tl_params.specs.Carried as carried;
 ghost use Rattle.tl_rules.specs.Fits as spec;
 
 use crate::fit::{begin_with, down_at, same_ids, up_at};
@@ -12,7 +13,7 @@ use tl_params::{DownPort, Master, Slave, UpPort, largest_end};
 // Whether slaves are those of all outputs in order.
 fn shows_outputs(slaves: &[Slave], outs: &[u32], up: &[UpPort]) -> bool
     requires { All (λ edge. edge < length up.now) outs.now }
-    ensures { result ≡ spec.slaves_fit None slaves.now (flat_map (λ output. output.slaves)
+    ensures { result ≡ carried.slaves_fit None slaves.now (flat_map (λ output. output.slaves)
         (map (spec.up_at up.now) outs.now)) }
 {
     let mut rest = slaves;

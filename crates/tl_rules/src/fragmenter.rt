@@ -1,6 +1,7 @@
 ghost use Rattle.std.specs.Prelude.{◌≡◌, map, IfOk, IfSome};
 ghost use Rattle.dip_rule.specs.Stated.{Answers};
 ghost use Rattle.dip_sets.specs.SizeRanges.{size_range};
+ghost use Rattle.tl_params.specs.Arguments as arguments;
 ghost use Rattle.tl_rules.specs.Fragments as spec;
 
 use crate::ports::only;
@@ -12,8 +13,8 @@ use tl_params::{Args, DownPort, Master, Masters, Ops, Slave, Slaves, UpPort};
 
 /// The sizes from a piece to the largest transfer, where the arguments state them.
 pub fn fragment_arguments(args: &Args) -> Option<Sizes>
-    ensures value { result ≡ spec.fragment_arguments args.now }
-    ensures sizes { IfSome result spec.AreFragments }
+    ensures value { result ≡ arguments.fragment_arguments args.now }
+    ensures sizes { IfSome result arguments.AreFragments }
 {
     match args.as_slice() {
         [piece, largest] => Sizes::new(*piece, *largest),
@@ -23,7 +24,7 @@ pub fn fragment_arguments(args: &Args) -> Option<Sizes>
 
 /// The sizes that need no cutting: those from 1 to a piece.
 pub fn up_to_piece(fragments: &Sizes) -> Sizes
-    requires { spec.AreFragments fragments.now }
+    requires { arguments.AreFragments fragments.now }
     ensures { result ≡ size_range 1 fragments.now.min }
 {
     match Sizes::new(1, fragments.min()) {
@@ -34,7 +35,7 @@ pub fn up_to_piece(fragments: &Sizes) -> Sizes
 
 // Sizes behind the fragmenter.
 fn cut(fragments: &Sizes, sizes: &Sizes) -> Sizes
-    requires { spec.AreFragments fragments.now }
+    requires { arguments.AreFragments fragments.now }
     ensures { result ≡ spec.cut fragments.now.min sizes.now }
 {
     if sizes.max() == 0 {
@@ -49,7 +50,7 @@ fn cut(fragments: &Sizes, sizes: &Sizes) -> Sizes
 
 // Sizes before the fragmenter.
 fn widened(fragments: &Sizes, sizes: &Sizes) -> Sizes
-    requires { spec.AreFragments fragments.now }
+    requires { arguments.AreFragments fragments.now }
     ensures { result ≡ spec.widened fragments.now sizes.now }
 {
     if sizes.contains(fragments.min()) {
@@ -59,7 +60,7 @@ fn widened(fragments: &Sizes, sizes: &Sizes) -> Sizes
 }
 
 fn cut_ops(fragments: &Sizes, ops: &Ops) -> Ops
-    requires { spec.AreFragments fragments.now }
+    requires { arguments.AreFragments fragments.now }
     ensures { result ≡ spec.cut_ops fragments.now.min ops.now }
 {
     Ops {
@@ -71,7 +72,7 @@ fn cut_ops(fragments: &Sizes, ops: &Ops) -> Ops
 }
 
 fn widened_ops(fragments: &Sizes, ops: &Ops) -> Ops
-    requires { spec.AreFragments fragments.now }
+    requires { arguments.AreFragments fragments.now }
     ensures { result ≡ spec.widened_ops fragments.now ops.now }
 {
     Ops {
@@ -83,7 +84,7 @@ fn widened_ops(fragments: &Sizes, ops: &Ops) -> Ops
 }
 
 fn cut_masters(alloc: Global, fragments: &Sizes, masters: &[Master]) -> Result<Masters, Memory>
-    requires { spec.AreFragments fragments.now }
+    requires { arguments.AreFragments fragments.now }
     ensures { IfOk result (λ cut. cut ≡ map (spec.cut_master fragments.now.min) masters.now) }
 {
     let mut cut = Items::new(alloc);
@@ -99,7 +100,7 @@ fn cut_masters(alloc: Global, fragments: &Sizes, masters: &[Master]) -> Result<M
 }
 
 fn widened_slave(alloc: Global, fragments: &Sizes, slave: &Slave) -> Result<Slave, Memory>
-    requires { spec.AreFragments fragments.now }
+    requires { arguments.AreFragments fragments.now }
     ensures { IfOk result (λ wide. wide ≡ spec.widened_slave fragments.now slave.now) }
 {
     Ok(Slave {
@@ -111,7 +112,7 @@ fn widened_slave(alloc: Global, fragments: &Sizes, slave: &Slave) -> Result<Slav
 }
 
 fn widened_slaves(alloc: Global, fragments: &Sizes, slaves: &[Slave]) -> Result<Slaves, Memory>
-    requires { spec.AreFragments fragments.now }
+    requires { arguments.AreFragments fragments.now }
     ensures { IfOk result (λ wide. wide ≡ map (spec.widened_slave fragments.now) slaves.now) }
 {
     let mut wide = Items::new(alloc);
@@ -122,7 +123,7 @@ fn widened_slaves(alloc: Global, fragments: &Sizes, slaves: &[Slave]) -> Result<
 }
 
 fn cut_port(alloc: Global, fragments: &Sizes, port: &DownPort) -> Result<DownPort, Memory>
-    requires { spec.AreFragments fragments.now }
+    requires { arguments.AreFragments fragments.now }
     ensures { IfOk result (λ cut. cut ≡ spec.cut_port fragments.now.min port.now) }
 {
     let masters = cut_masters(alloc, fragments, port.masters.as_slice())?;
@@ -130,7 +131,7 @@ fn cut_port(alloc: Global, fragments: &Sizes, port: &DownPort) -> Result<DownPor
 }
 
 fn widened_port(alloc: Global, fragments: &Sizes, port: &UpPort) -> Result<UpPort, Memory>
-    requires { spec.AreFragments fragments.now }
+    requires { arguments.AreFragments fragments.now }
     ensures { IfOk result (λ wide. wide ≡ spec.widened_port fragments.now port.now) }
 {
     let slaves = widened_slaves(alloc, fragments, port.slaves.as_slice())?;

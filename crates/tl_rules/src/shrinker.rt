@@ -1,5 +1,6 @@
 ghost use Rattle.std.specs.Prelude.{◌≡◌};
 ghost use Rattle.dip_rule.specs.Stated.{Answers};
+ghost use Rattle.tl_params.specs.Arguments as arguments;
 ghost use Rattle.tl_rules.specs.Shrinks as spec;
 
 use crate::ports::only;
@@ -11,7 +12,7 @@ use tl_params::{Args, DownPort, Master, Ops, UpPort, copy_up};
 
 /// The only argument, where it is a number of ids from 1 to 64.
 pub fn shrink_argument(args: &Args) -> Option<u32>
-    ensures { result ≡ spec.shrink_argument args.now }
+    ensures { result ≡ arguments.shrink_argument args.now }
 {
     match args.as_slice() {
         [ids] if 1 <= *ids && *ids <= 64 => Some(*ids),

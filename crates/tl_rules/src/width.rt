@@ -1,5 +1,6 @@
 ghost use Rattle.std.specs.Prelude.{◌≡◌, IfOk};
 ghost use Rattle.dip_rule.specs.Stated.{Answers};
+ghost use Rattle.tl_params.specs.Arguments as arguments;
 ghost use Rattle.tl_rules.specs.Adapters as spec;
 
 use crate::ports::only;
@@ -10,7 +11,7 @@ use tl_params::{Args, DownPort, UpPort, copy_down};
 
 /// Whether a bus may have this width, in bytes.
 pub fn is_width(bytes: u32) -> bool
-    ensures { result ≡ spec.is_width bytes }
+    ensures { result ≡ arguments.is_width bytes }
 {
     matches!(bytes, 1 | 2 | 4 | 8)
 }

@@ -1,5 +1,6 @@
 use Rattle.std.proofs.Common.{◌≡◌, drop}
-use Rattle.tl_rules.specs.Fits.{all_zip, adapter_fits, edge_at}
+use Rattle.tl_params.specs.Carried.{all_zip}
+use Rattle.tl_rules.specs.Fits.{adapter_fits, edge_at}
 use Rattle.tl_rules.proofs.fit.adapters_fit.Given as goal
 
 abbrev pub invariant-loop-place : goal.invariant-loop-place

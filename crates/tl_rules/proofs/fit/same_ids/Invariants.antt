@@ -1,5 +1,6 @@
 use Rattle.std.proofs.Common.{◌≡◌, drop}
-use Rattle.tl_rules.specs.Fits.{all_zip, has_same_ids}
+use Rattle.tl_params.specs.Carried.{all_zip}
+use Rattle.tl_rules.specs.Fits.{has_same_ids}
 use Rattle.tl_rules.proofs.fit.same_ids.Given as goal
 
 abbrev pub invariant-loop-place : goal.invariant-loop-place

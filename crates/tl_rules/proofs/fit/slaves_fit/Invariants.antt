@@ -1,5 +1,5 @@
 use Rattle.std.proofs.Common.{◌≡◌, drop}
-use Rattle.tl_rules.specs.Fits.{all_zip, slave_fits}
+use Rattle.tl_params.specs.Carried.{all_zip, slave_fits}
 use Rattle.tl_rules.proofs.fit.slaves_fit.Given as goal
 
 abbrev pub invariant-loop-place : goal.invariant-loop-place

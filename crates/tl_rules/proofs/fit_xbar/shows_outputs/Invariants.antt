@@ -1,6 +1,7 @@
 use Rattle.std.proofs.Common.{◌≡◌, drop, map, None}
 use Rattle.std.specs.List.{flat_map}
-use Rattle.tl_rules.specs.Fits.{slaves_fit, up_at}
+use Rattle.tl_params.specs.Carried.{slaves_fit}
+use Rattle.tl_rules.specs.Fits.{up_at}
 use Rattle.tl_rules.proofs.fit_xbar.shows_outputs.Given as goal
 
 abbrev pub invariant-loop-output : goal.invariant-loop-output
