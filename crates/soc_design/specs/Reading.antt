@@ -7,7 +7,7 @@ use Rattle.toml.specs.Data.{Data, Items, no_items, item, Members}
 use Rattle.dip_lists.specs.First.{Check, check}
 use Rattle.dip_graph.specs.declared.design.Design.{Design}
 use Rattle.toml_shape.specs.Shapes.{tables_under}
-use Rattle.toml_shape.specs.Numbers.{is_named}
+use Rattle.dip_names.specs.Numbers.{is_named}
 use Rattle.dip_graph.specs.declared.design.ModuleEntry.{ModuleEntry}
 use Rattle.dip_graph.specs.declared.design.NodeEntry.{NodeEntry}
 use Rattle.dip_graph.specs.declared.design.BindEntry.{BindEntry}

@@ -16,7 +16,7 @@ use Rattle.dip_graph.specs.declared.design.BindEntry.{BindEntry}
 use Rattle.dip_graph.specs.declared.design.Star.{Star}
 use Rattle.dip_graph.specs.declared.design.Star.TheVariants.{One, FromStar, ToStar}
 use Rattle.toml_shape.specs.Shapes.{integer_of, text_of, pair_of, number_within, table_under, text_under, name_under, number_under}
-use Rattle.toml_shape.specs.Numbers.{is_named, number_of}
+use Rattle.dip_names.specs.Numbers.{is_named, number_of}
 use Rattle.soc_design.specs.declared.limits.Heading.{Heading}
 use Rattle.soc_design.specs.declared.nodes.LimitedNode.{LimitedNode}
 

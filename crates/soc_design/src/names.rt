@@ -1,6 +1,6 @@
 ghost use Rattle.std.specs.Prelude.{◌≡◌, ◌≤◌, ◌<◌, ◌^◌, ◌+◌, [], ◌∷◌, length, false, All, IfOk, IfErr, IfSome, None, Some};
 ghost use Rattle.toml.specs.View.{table_view, view, items_view};
-ghost use Rattle.toml_shape.specs.Numbers.{is_named};
+ghost use Rattle.dip_names.specs.Numbers.{is_named};
 ghost use Rattle.dip_lists.specs.First.{first, first_failing};
 ghost use Rattle.soc_design.specs.Stated as spec;
 ghost use Rattle.soc_design.specs.Standing.{IsTree, IsWithinLimits};
@@ -13,10 +13,11 @@ use crate::nodes::{LimitedNode, LimitedNodes};
 use crate::tables::{first_bind, first_node, named, tables_in};
 use dip_graph::{BindEntry, Binds, Design, Fault, ModuleEntry, ModuleTree, NodeEntry, Nodes, Star};
 use dip_lists::{Items, Memory};
+use dip_names::Names;
 use dip_sets::Name;
 use std::alloc::Global;
 use toml::{Table, Value};
-use toml_shape::{Names, name_under, text_under, under};
+use toml_shape::{name_under, text_under, under};
 
 /// The modules of a design, and their names by their numbers.
 #[derive(Drop)]

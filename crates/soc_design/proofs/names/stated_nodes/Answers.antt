@@ -3,7 +3,7 @@ use Rattle.std.specs.Option.{option_map, option_and_then}
 use Rattle.std.specs.Vec.Iter.{into_iter_items}
 use Rattle.std.proofs.lemmas.List.Elements.{All-push, All-head, All-same, All-rest}
 use Rattle.toml.specs.View.{view, items_view}
-use Rattle.toml_shape.specs.Numbers.{is_named}
+use Rattle.dip_names.specs.Numbers.{is_named}
 use Rattle.dip_lists.specs.First.{failure_of}
 use Rattle.dip_graph.specs.declared.design.NodeEntry.{NodeEntry}
 use Rattle.soc_design.specs.declared.nodes.LimitedNode.{LimitedNode}

@@ -7,7 +7,7 @@ use Rattle.std.specs.String.{string_eq}
 use Rattle.std.specs.Map.{lookup, keys_of}
 use Rattle.std.proofs.lemmas.Iterator.Adapters.{position_from-zero}
 use Rattle.indexmap.specs.IndexMap.{insert_entry}
-use Rattle.toml_shape.specs.Numbers.{texts, is_named, number_from}
+use Rattle.dip_names.specs.Numbers.{texts, is_named, number_from}
 
 abbrev pub Entry : Type 0
 Entry = String Global × ℕ

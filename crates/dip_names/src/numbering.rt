@@ -1,5 +1,5 @@
 ghost use Rattle.std.specs.Prelude.{◌≡◌, [], ◌∷◌, ◌++◌, ◌<◌, length, false, IfSome, OnOk, OnErr};
-ghost use Rattle.toml_shape.specs.Numbers.{is_named, number_of};
+ghost use Rattle.dip_names.specs.Numbers.{is_named, number_of};
 
 use dip_lists::Memory;
 use indexmap::IndexMap;
@@ -15,7 +15,7 @@ pub struct Names {
 
 impl Model for Names {
     ghost use Rattle.std.specs.Prelude.{List, ℕ};
-    ghost use Rattle.toml_shape.specs.Numbers.{texts};
+    ghost use Rattle.dip_names.specs.Numbers.{texts};
     ghost use Rattle.indexmap.specs.IndexMap.{keys};
 
     ghost Value = { List (List ℕ) };

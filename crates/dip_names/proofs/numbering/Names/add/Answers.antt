@@ -1,9 +1,9 @@
 use Rattle.std.proofs.Common.{◌∙◌, ap, ◌++◌, ◌∷◌, [], List, ℕ}
 use Rattle.std.specs.Map.{keys_of}
-use Rattle.toml_shape.specs.Numbers.{texts, is_named}
+use Rattle.dip_names.specs.Numbers.{texts, is_named}
 use Rattle.indexmap.specs.IndexMap.{keys}
-use Rattle.toml_shape.proofs.Entries.{Entry, added}
-use Rattle.toml_shape.proofs.numbering.Names.add.Goals as goal
+use Rattle.dip_names.proofs.Entries.{Entry, added}
+use Rattle.dip_names.proofs.numbering.Names.add.Goals as goal
 
 pub returns-clause-ok : goal.returns-clause-ok
 returns-clause-ok c =
