@@ -186,12 +186,12 @@ front_width (x ∷ xs) (suc k) w rest e =
 abbrev pub with_cells : Progress → List Cell → Progress
 with_cells p cs = record p { cells = p.cells ++ cs; next_cell = p.next_cell + length cs }
 
-no_cells : (p : Progress) → with_cells p [] ≡ p
+pub no_cells : (p : Progress) → with_cells p [] ≡ p
 no_cells p =
     let n : p.next_cell + 0 ≡ p.next_cell = omega arith in
     ap (λ (xs : List Cell). record p { cells = xs; next_cell = p.next_cell + 0 }) (append-nil p.cells) ∙ ap (λ m. record p { next_cell = m }) n
 
-more_cells : (p : Progress) (c : Cell) (cs : List Cell) → with_cells p (c ∷ cs) ≡ with_cells (celled p c) cs
+pub more_cells : (p : Progress) (c : Cell) (cs : List Cell) → with_cells p (c ∷ cs) ≡ with_cells (celled p c) cs
 more_cells p c cs =
     let n : p.next_cell + suc (length cs) ≡ p.next_cell + 1 + length cs = omega arith in
     ap (λ (xs : List Cell). record p { cells = xs; next_cell = p.next_cell + suc (length cs) }) (sym (append_assoc p.cells (c ∷ []) cs))

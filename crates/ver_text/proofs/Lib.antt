@@ -1,13 +1,16 @@
 pub mod CellParts
+pub mod Constructs
 pub mod Exact
 pub mod Formed
 pub mod Groups
+pub mod Heard
+pub mod Items
 pub mod Judgements
 pub mod Layouts
 pub mod Lexing
 pub mod Lists
-pub mod Names
 pub mod Literals
+pub mod Names
 pub mod NetNames
 pub mod Numerals
 pub mod PortParts
@@ -20,5 +23,7 @@ pub mod Signs
 pub mod Spelled
 pub mod Spells
 pub mod Steps
+pub mod Taken
+pub mod Told
 pub mod ValueParts
 pub mod Words

@@ -74,11 +74,11 @@ seen_by text s next p t true false = refl
 seen_by text s next p t false true = refl
 seen_by text s next p t false false = refl
 
-seen_moved : (text : List ℕ) (c : Cursor) (t : Token) (next : State)
+pub seen_moved : (text : List ℕ) (c : Cursor) (t : Token) (next : State)
     → seen_of text (moved_to c t (Some next)) ≡ seen_next (seen_of text c) next t.kind (sign_of text t).word
 seen_moved text c t next = seen_by text c.state next c.part t (opens c.state) (is_word t.kind)
 
-due_is : (text : List ℕ) (p : Progress) (c : Cursor) → due text p c.part ≡ due_seen p (seen_of text c)
+pub due_is : (text : List ℕ) (p : Progress) (c : Cursor) → due text p c.part ≡ due_seen p (seen_of text c)
 unfolding due
 due_is text p c = refl
 
@@ -112,7 +112,7 @@ behind_part text c d t ts end p r q m s b u h = record {
   parts_say = rw (m, parts) (rw b (rw (u, judged) h.parts_say));
 }
 
-moved_is : (c : Cursor) (t : Token) (next : State) → step c.state t.kind ≡ Some next → moved c t ≡ moved_to c t (Some next)
+pub moved_is : (c : Cursor) (t : Token) (next : State) → step c.state t.kind ≡ Some next → moved c t ≡ moved_to c t (Some next)
 unfolding moved
 moved_is c t next e = ap (moved_to c t) e
 

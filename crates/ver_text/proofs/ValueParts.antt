@@ -97,12 +97,12 @@ update_taken p fourth next r f l w v n =
 abbrev pub with_updates : Progress → List Reg → Progress
 with_updates p rs = record p { regs = p.regs ++ rs; next_register = p.next_register + length rs }
 
-no_updates : (p : Progress) → with_updates p [] ≡ p
+pub no_updates : (p : Progress) → with_updates p [] ≡ p
 no_updates p =
     let n : p.next_register + 0 ≡ p.next_register = omega arith in
     ap (λ (xs : List Reg). record p { regs = xs; next_register = p.next_register + 0 }) (append-nil p.regs) ∙ ap (λ m. record p { next_register = m }) n
 
-more_updates : (p : Progress) (r : Reg) (rs : List Reg) → with_updates p (r ∷ rs) ≡ with_updates (updated p r) rs
+pub more_updates : (p : Progress) (r : Reg) (rs : List Reg) → with_updates p (r ∷ rs) ≡ with_updates (updated p r) rs
 more_updates p r rs =
     let n : p.next_register + suc (length rs) ≡ p.next_register + 1 + length rs = omega arith in
     ap (λ (xs : List Reg). record p { regs = xs; next_register = p.next_register + suc (length rs) }) (sym (append_assoc p.regs (r ∷ []) rs))
