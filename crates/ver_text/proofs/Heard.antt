@@ -93,12 +93,12 @@ pub record Heard (p q : Progress) (ss : List Sign) : Type 0 where
   pub bound : Boundary next (item_next item)
   pub bare : AllByRecursion Bare rest
 
-record Then (o : Option Progress) (more : Progress → Option Progress) (q : Progress) : Type 0 where
+pub record Then (o : Option Progress) (more : Progress → Option Progress) (q : Progress) : Type 0 where
   pub after : Progress
   pub taken : o ≡ Some after
   pub goes : more after ≡ Some q
 
-then_of : (o : Option Progress) (more : Progress → Option Progress) (q : Progress) → due_then o more ≡ Some q → Then o more q
+pub then_of : (o : Option Progress) (more : Progress → Option Progress) (q : Progress) → due_then o more ≡ Some q → Then o more q
 then_of None more q e = cc
 then_of (Some r) more q e = record { after = r; taken = refl; goes = e }
 

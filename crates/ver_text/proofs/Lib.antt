@@ -3,6 +3,7 @@ pub mod Constructs
 pub mod Exact
 pub mod Formed
 pub mod Groups
+pub mod Heads
 pub mod Heard
 pub mod Items
 pub mod Judgements

@@ -69,11 +69,11 @@ right_part : (P : List ℕ → Type 0) (xs ys : List (List ℕ)) → AllByRecurs
 right_part P [] ys h = h
 right_part P (x ∷ xs) ys h = right_part P xs ys h.1
 
-widths_more : (ports more : List Port) → widths_of (ports ++ more) ≡ widths_of ports ++ widths_of more
+pub widths_more : (ports more : List Port) → widths_of (ports ++ more) ≡ widths_of ports ++ widths_of more
 widths_more [] more = refl
 widths_more (p ∷ ps) more = ap (λ ws. p.width ∷ ws) (widths_more ps more)
 
-names_more : (ports more : List Port) → names_of (ports ++ more) ≡ names_of ports ++ names_of more
+pub names_more : (ports more : List Port) → names_of (ports ++ more) ≡ names_of ports ++ names_of more
 names_more [] more = refl
 names_more (p ∷ ps) more = ap (λ ns. p.name ∷ ns) (names_more ps more)
 

@@ -39,11 +39,11 @@ pub held : (b : Bool) (p q : Progress) → cond b (Some p) None ≡ Some q → H
 held true p q e = record { holds = refl; same = cc }
 held false p q e = cc
 
-record Guarded (b : Bool) (o : Option Progress) (q : Progress) : Type 0 where
+pub record Guarded (b : Bool) (o : Option Progress) (q : Progress) : Type 0 where
   pub holds : b ≡ true
   pub goes : o ≡ Some q
 
-guarded : (b : Bool) (o : Option Progress) (q : Progress) → cond b o None ≡ Some q → Guarded b o q
+pub guarded : (b : Bool) (o : Option Progress) (q : Progress) → cond b o None ≡ Some q → Guarded b o q
 guarded true o q e = record { holds = refl; goes = e }
 guarded false o q e = cc
 
