@@ -21,6 +21,7 @@ pub mod Refusals
 pub mod Scans
 pub mod Segments
 pub mod Signs
+pub mod Sound
 pub mod Spelled
 pub mod Spells
 pub mod Steps

@@ -47,7 +47,7 @@ pub record Good (name : List ℕ) (is : List Port) (rs : List Reg) (cs : List Ce
   pub ops : AllByRecursion (λ (c : Cell). IsCell (widths (made name is rs cs os)) c.width c.op) cs
   pub shown : AllByRecursion (λ (o : OutPort). o.net < length (widths (made name is rs cs os))) os
 
-regroup : (H R I O C G W V S U E : List Sign)
+pub regroup : (H R I O C G W V S U E : List Sign)
     → ((H ++ []) ++ ((R ++ I) ++ (O ++ ((C ++ []) ++ [])))) ++ (G ++ (W ++ [])) ++ (V ++ (S ++ (U ++ ((E ++ []) ++ []))))
     ≡ H ++ (R ++ (I ++ (O ++ (C ++ (G ++ (W ++ (V ++ (S ++ (U ++ E)))))))))
 regroup H R I O C G W V S U E = simp (append_assoc, append-nil)
