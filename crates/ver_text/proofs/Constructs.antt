@@ -1,5 +1,5 @@
 -- The tokens of a construct, told by its first one.
-use Rattle.std.proofs.Common.{ℕ, zero, suc, ◌≡◌, ◌+◌, ◌≤◌, ◌<◌, List, [], ◌∷◌, ◌++◌, length, drop, Bool, true, false, ◌&&◌, cond, Option, Some, None, refl, ap, sym, subst, ◌∙◌, add-one, arith}
+use Rattle.std.proofs.Common.{ℕ, zero, suc, ◌≡◌, ◌+◌, ◌<◌, List, [], ◌∷◌, ◌++◌, length, drop, Bool, true, false, ◌&&◌, cond, Option, Some, None, refl, ap, sym, subst, ◌∙◌, add-one, arith}
 use Rattle.std.specs.Prelude.{slice_get, unwrap_or, nat_le}
 use Rattle.std.specs.List.{AllByRecursion}
 use Rattle.std.proofs.lemmas.Bool.{false≢true}
@@ -12,7 +12,7 @@ use Rattle.ver_text.specs.declared.grammar.State.{State}
 use Rattle.ver_text.specs.declared.progress.Progress.{Progress}
 use Rattle.ver_text.specs.Kinds.{is_word, same_kind, same_rule, number_of_kind}
 use Rattle.ver_text.specs.Grammar.{behind, next_rule, rule_of, step, within, is_whole}
-use Rattle.ver_text.specs.Parts.{ends, is_done, closes}
+use Rattle.ver_text.specs.Parts.{ends, closes}
 use Rattle.ver_text.specs.Spelling.{Sign}
 use Rattle.ver_text.proofs.Signs.{Seen, said, seen_next, due_seen}
 use Rattle.ver_text.proofs.Segments.{Boundary, due_then}

@@ -1,5 +1,5 @@
 -- The tests of parts say what they are to.
-use Rattle.std.proofs.Common.{ℕ, ◌≡◌, ◌↔◌, ◌+◌, ◌-◌, ◌*◌, ◌^◌, ◌<◌, ◌≤◌, List, [], ◌∷◌, ◌++◌, length, drop, Bool, true, false, ◌&&◌, cond, Option, Some, None, refl, ap, sym, subst, ◌∙◌, arith}
+use Rattle.std.proofs.Common.{ℕ, ◌≡◌, ◌+◌, ◌-◌, ◌*◌, ◌^◌, ◌<◌, ◌≤◌, List, [], ◌∷◌, length, drop, Bool, true, false, ◌&&◌, cond, Option, Some, None, refl, ap, subst, ◌∙◌, arith}
 use Rattle.std.specs.Prelude.{decimal, codes, nat_lt, nat_le, ◌==◌, slice_index}
 use Rattle.std.specs.List.{prefix_len}
 use Rattle.std.specs.Str.{bytes_eq}
@@ -8,7 +8,7 @@ use Rattle.std.proofs.lemmas.Slice.Eq.{bytes_eq-Decides}
 use Rattle.std.proofs.lemmas.Bool.Decides.{nat_tests}
 use Rattle.net_cells.specs.declared.netlist.CellOp.{CellOp}
 use Rattle.net_cells.specs.declared.netlist.CellOp.TheVariants.{Const, Not, And, Or, Xor, Add, Sub, Eq, Less, Mux, Concat, Select}
-use Rattle.net_cells.specs.Rules.{IsCell, IsWidth, IsNet, HasWidth, HaveWidth, HaveOneWidth, width_at}
+use Rattle.net_cells.specs.Rules.{IsCell, IsWidth, HasWidth, HaveWidth, HaveOneWidth}
 use Rattle.ver_text.specs.Lexemes.{is_digit}
 use Rattle.ver_text.specs.Numerals.{digit_value, numeral, written, number_of, number_below, if_below, literal, literal_of}
 use Rattle.ver_text.specs.Due.{width_of, width_by}

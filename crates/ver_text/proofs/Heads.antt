@@ -1,14 +1,13 @@
 -- The heading and the ports of a text that is read.
-use Rattle.std.proofs.Common.{ℕ, zero, suc, ◌≡◌, ◌≢◌, ◌+◌, ◌-◌, ◌<◌, ◌≤◌, List, [], ◌∷◌, ◌++◌, length, map, Bool, true, false, not, ◌&&◌, cond, Option, Some, None, refl, ap, sym, subst, ◌∙◌, append_assoc, length-append, arith}
-use Rattle.std.specs.Prelude.{codes, decimal, ◌==◌, nat_lt, slice_get}
-use Rattle.std.specs.List.{AllByRecursion, list_all}
+use Rattle.std.proofs.Common.{ℕ, zero, suc, ◌≡◌, ◌≢◌, ◌+◌, ◌-◌, ◌<◌, ◌≤◌, List, [], ◌∷◌, ◌++◌, length, Bool, true, false, not, ◌&&◌, cond, Option, Some, None, refl, ap, sym, subst, ◌∙◌, append_assoc, length-append, arith}
+use Rattle.std.specs.Prelude.{codes, decimal, ◌==◌}
+use Rattle.std.specs.List.{AllByRecursion}
 use Rattle.std.specs.Str.{bytes_eq}
 use Rattle.std.proofs.lemmas.Bool.{false≢true}
 use Rattle.std.proofs.lemmas.List.{append-nil}
 use Rattle.std.proofs.lemmas.Slice.Eq.{bytes_eq-Decides}
 use Rattle.dip_sets.specs.Names.{is_name}
 use Rattle.net_cells.specs.declared.netlist.Port.{Port}
-use Rattle.net_cells.specs.Rules.{IsWidth}
 use Rattle.ver_text.specs.declared.kind.Kind.{Kind}
 use Rattle.ver_text.specs.declared.kind.Kind.TheVariants as kind
 use Rattle.ver_text.specs.declared.kind.Rule.{Rule}
@@ -16,18 +15,17 @@ use Rattle.ver_text.specs.declared.kind.Rule.TheVariants as rule
 use Rattle.ver_text.specs.declared.progress.Progress.{Progress}
 use Rattle.ver_text.specs.Kinds.{is_word, same_rule}
 use Rattle.ver_text.specs.Grammar.{behind, rule_of, step}
-use Rattle.ver_text.specs.Due.{due_by, due_name, due_input, due_output, due_reset, due_other, due_clock, with_input, with_output, is_named, is_new, is_port_name, is_none, width_of, at_first}
+use Rattle.ver_text.specs.Due.{due_by, due_name, due_input, due_output, with_input, with_output, is_named, is_new, is_port_name, is_none, width_of, at_first}
 use Rattle.ver_text.specs.Spelling.{Sign}
 use Rattle.ver_text.specs.TestLaw.{IsRangeIn}
 use Rattle.ver_text.proofs.Signs.{Seen, said}
 use Rattle.ver_text.proofs.Segments.{Boundary, due_then, first_said, close_said, seen_start}
-use Rattle.ver_text.proofs.Refusals.{begins}
 use Rattle.ver_text.proofs.Exact.{both_true, eq_of, range_is}
 use Rattle.ver_text.proofs.PortParts.{headed, names_of, widths_of, names_more, widths_more, Apart, IsPort}
 use Rattle.ver_text.proofs.Told.{Bare}
 use Rattle.ver_text.proofs.Constructs.{front, tail, fill, construct}
-use Rattle.ver_text.proofs.Heard.{Then, then_of, Item, register, wire, value, update, ending, item_due, Heard, heard, plain, named, numbered}
-use Rattle.ver_text.proofs.Taken.{Held, held, Guarded, guarded, reg_taken, wire_taken, value_taken, update_taken}
+use Rattle.ver_text.proofs.Heard.{then_of, Item, register, wire, value, update, ending, item_due, heard, plain, named, numbered}
+use Rattle.ver_text.proofs.Taken.{held, guarded, reg_taken, wire_taken, value_taken, update_taken}
 use Rattle.ver_text.proofs.Items.{AnyWhere}
 
 -- ---- what stands between parts
@@ -69,6 +67,7 @@ between P kind.Comma ws rest w p a q d t b e comma close =
         ≡ said p (record { state = record { first = kind.Comma; done = 0 }; head = a.head; form = kind.Comma; fourth = a.fourth; third = a.third; second = a.second; last = a.last }) rest
     comma_by p a true rest n = cc
     comma_by p a false rest n = refl
+
     first_comma : (p : Progress) (a : Seen) (rest : List Sign) → Boundary a rule.MorePorts
         → said p a (plain kind.Comma ∷ rest)
         ≡ said p (record { state = record { first = kind.Comma; done = 0 }; head = a.head; form = kind.Comma; fourth = a.fourth; third = a.third; second = a.second; last = a.last }) rest
@@ -308,7 +307,7 @@ input_by name i is outs high low word after (Some width) w e =
       new = n.inputs;
       signs = ranged kind.Input high low word (decimal (width - 1)) (codes "0") r.1 r.2;
       same = added name (i ∷ is) outs port (widths_of (i ∷ is) ++ width ∷ []) (length (i ∷ is) + 1) (sym (widths_more (i ∷ is) (port ∷ [])))
-      (sym (length-append (i ∷ is) (port ∷ []))) ∙ k.same;
+          (sym (length-append (i ∷ is) (port ∷ []))) ∙ k.same;
     }
 
 record OutputTaken (name : List ℕ) (i : Port) (is outs : List Port) (high low word : List ℕ) (after : Progress) : Type 0 where
@@ -353,8 +352,8 @@ input_more name i is outs port q ss rest h n s r =
       rest = r.rest;
       next = r.next;
       split = s ∙ (ap (λ xs. (plain kind.Comma ∷ port_signs kind.Input (decimal (port.width - 1)) (codes "0") port.name) ++ xs) r.split
-      ∙ sym (append_assoc (plain kind.Comma ∷ port_signs kind.Input (decimal (port.width - 1)) (codes "0") port.name) (in_list r.inputs)
-      (out_ports r.outputs ++ (close_signs ++ r.rest))));
+          ∙ sym (append_assoc (plain kind.Comma ∷ port_signs kind.Input (decimal (port.width - 1)) (codes "0") port.name) (in_list r.inputs)
+          (out_ports r.outputs ++ (close_signs ++ r.rest))));
       goes = subst (λ xs. said (headed name (i ∷ xs) (outs ++ r.outputs)) r.next r.rest ≡ Some q) e r.goes;
       bound = r.bound;
       bare = r.bare;
@@ -382,16 +381,16 @@ output_by_none [] name i is outs port q ss rest r e a s h =
       rest = r.rest;
       next = r.next;
       split = s ∙ (ap (λ xs. piece ++ xs) (r.split ∙ ap (λ xs. in_list xs ++ (out_ports r.outputs ++ (close_signs ++ r.rest))) e)
-      ∙ sym (append_assoc piece (out_ports r.outputs) (close_signs ++ r.rest)));
+          ∙ sym (append_assoc piece (out_ports r.outputs) (close_signs ++ r.rest)));
       goes = subst (λ xs. said (headed name (i ∷ (is ++ [])) xs) r.next r.rest ≡ Some q) o
-      (subst (λ xs. said (headed name (i ∷ (is ++ xs)) ((outs ++ port ∷ []) ++ r.outputs)) r.next r.rest ≡ Some q) e r.goes);
+          (subst (λ xs. said (headed name (i ∷ (is ++ xs)) ((outs ++ port ∷ []) ++ r.outputs)) r.next r.rest ≡ Some q) e r.goes);
       bound = r.bound;
       bare = r.bare;
       room = tt;
       ins = tt;
       shown = (h, r.shown);
       apart = subst (λ xs. Apart (names_of (i ∷ (is ++ [])) ++ names_of xs)) o
-      (subst (λ xs. Apart (names_of (i ∷ (is ++ xs)) ++ names_of ((outs ++ port ∷ []) ++ r.outputs))) e r.apart);
+          (subst (λ xs. Apart (names_of (i ∷ (is ++ xs)) ++ names_of ((outs ++ port ∷ []) ++ r.outputs))) e r.apart);
     }
 
 abbrev LaterPorts : List ℕ → Port → Progress → ℕ → Type 0

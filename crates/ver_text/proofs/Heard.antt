@@ -1,5 +1,5 @@
 -- The items of a text, as its tokens say them.
-use Rattle.std.proofs.Common.{ℕ, ◌≡◌, ◌+◌, List, [], ◌∷◌, ◌++◌, Bool, true, false, cond, Option, Some, None, refl, ap, sym, subst, ◌∙◌}
+use Rattle.std.proofs.Common.{ℕ, ◌≡◌, List, [], ◌∷◌, ◌++◌, Bool, true, false, cond, Option, Some, None, refl, sym, subst, ◌∙◌}
 use Rattle.std.specs.List.{AllByRecursion}
 use Rattle.ver_text.specs.declared.kind.Kind.{Kind}
 use Rattle.ver_text.specs.declared.kind.Kind.TheVariants as kind
@@ -14,7 +14,7 @@ use Rattle.ver_text.proofs.Signs.{Seen, said}
 use Rattle.ver_text.proofs.Segments.{Boundary, due_then, first_said}
 use Rattle.ver_text.proofs.Refusals.{begins}
 use Rattle.ver_text.proofs.Told.{Bare}
-use Rattle.ver_text.proofs.Constructs.{front, tail, fill, Construct, construct}
+use Rattle.ver_text.proofs.Constructs.{front, tail, fill, construct}
 
 -- ---- tokens
 

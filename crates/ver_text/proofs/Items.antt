@@ -1,6 +1,6 @@
 -- The items of a text that is read, kind by kind.
-use Rattle.std.proofs.Common.{ℕ, zero, suc, ◌≡◌, ◌⊎◌, inl, inr, ◌+◌, ◌-◌, ◌^◌, ◌<◌, ◌≤◌, List, [], ◌∷◌, ◌++◌, length, drop, map, Bool, true, false, not, ◌&&◌, cond, Option, Some, None, refl, ap, sym, subst, ◌∙◌, append_assoc, length-append, arith}
-use Rattle.std.specs.Prelude.{codes, decimal, nat_lt, nat_le, ◌==◌, slice_get, slice_index}
+use Rattle.std.proofs.Common.{ℕ, zero, suc, ◌≡◌, ◌⊎◌, inl, inr, ◌+◌, ◌-◌, ◌<◌, ◌≤◌, List, [], ◌∷◌, ◌++◌, length, drop, map, Bool, true, false, not, Some, refl, ap, sym, subst, ◌∙◌, append_assoc, length-append, arith}
+use Rattle.std.specs.Prelude.{codes, decimal, nat_lt, ◌==◌, slice_get, slice_index}
 use Rattle.std.specs.List.{AllByRecursion}
 use Rattle.std.proofs.lemmas.Bool.{false≢true}
 use Rattle.std.proofs.lemmas.Bool.Decides.{nat_tests}
@@ -23,8 +23,8 @@ use Rattle.ver_text.proofs.CellParts.{celled, with_cells, no_cells, more_cells}
 use Rattle.ver_text.proofs.ValueParts.{Full, shown, declared_as, updated, with_outputs, with_updates, no_updates, more_updates}
 use Rattle.ver_text.proofs.Told.{Bare}
 use Rattle.ver_text.proofs.Constructs.{nothing_more}
-use Rattle.ver_text.proofs.Heard.{Item, register, wire, value, update, ending, item_signs, item_due, item_next, Heard, heard, plain, named, net_signs, assigned_signs, update_signs}
-use Rattle.ver_text.proofs.Taken.{calls, cell_signs, Four, four, RegTaken, reg_taken, WireTaken, wire_taken, CellTaken, ShownTaken, value_taken, UpdateTaken, update_taken, EndTaken, end_taken}
+use Rattle.ver_text.proofs.Heard.{Item, register, wire, value, update, ending, item_signs, item_due, item_next, heard, plain, named, net_signs, assigned_signs, update_signs}
+use Rattle.ver_text.proofs.Taken.{calls, cell_signs, four, RegTaken, reg_taken, WireTaken, wire_taken, value_taken, UpdateTaken, update_taken, EndTaken, end_taken}
 
 -- a test holds where a list has something
 abbrev pub AnyWhere : {A : Type 0} → List A → Bool → Type 0
@@ -125,7 +125,7 @@ updates_cons p q r ss rest u l w h s =
     record {
       regs = r ∷ u.regs;
       split = regrouped ss (update_signs (codes "clock") (register_name p.next_register) (calls p r.next)) (update_list (calls p) (p.next_register + 1) u.regs) rest
-      (plain kind.Endmodule ∷ []) s u.split;
+          (plain kind.Endmodule ∷ []) s u.split;
       final = more_updates p r u.regs ∙ u.final;
       full = record { cells = u.full.cells; outputs = u.full.outputs };
       all = omega arith;
@@ -180,7 +180,7 @@ shown_cons p q o ss rest h f l s =
       more = subst (λ x. Updating x q h.rest) (sym (more_outputs p o h.outs)) h.more;
       room = found_low p.declared (length p.outputs) (declared_as p.widths o) f;
       declared = drop_found p.declared (length p.outputs) (declared_as p.widths o) f
-      ∙ (ap (λ k. declared_as p.widths o ∷ drop k p.declared) n ∙ ap (λ xs. declared_as p.widths o ∷ xs) h.declared);
+          ∙ (ap (λ k. declared_as p.widths o ∷ drop k p.declared) n ∙ ap (λ xs. declared_as p.widths o ∷ xs) h.declared);
       within = (l, h.within);
     }
 
@@ -224,7 +224,7 @@ valued_cons p q c ss rest h l w i s = record {
   room = l;
   rules = (i, h.rules);
   wide = drop_front p.widths p.next_cell (lt_of p.next_cell (length p.widths) l)
-  ∙ (ap (λ x. x ∷ drop (p.next_cell + 1) p.widths) w ∙ ap (λ xs. c.width ∷ xs) h.wide);
+      ∙ (ap (λ x. x ∷ drop (p.next_cell + 1) p.widths) w ∙ ap (λ xs. c.width ∷ xs) h.wide);
 }
 
 -- ---- the nets of cells
@@ -268,7 +268,7 @@ wires_cons p q w ss rest h t i s =
       wires = w ∷ h.wires;
       rest = h.rest;
       split = regrouped ss (net_signs kind.Wire (decimal (w - 1)) (codes "0") (cell_name (length p.widths))) (wire_list (length p.widths + 1) h.wires) rest h.rest s
-      (h.split ∙ ap (λ k. wire_list k h.wires ++ h.rest) n);
+          (h.split ∙ ap (λ k. wire_list k h.wires ++ h.rest) n);
       more = subst (λ x. Valuing x q h.rest) (sym (more_wires p w h.wires)) h.more;
       room = t;
       wide = (i, h.wide);
@@ -323,7 +323,7 @@ regs_cons p q w ss rest h t i s =
       regs = w ∷ h.regs;
       rest = h.rest;
       split = regrouped ss (net_signs kind.Reg (decimal (w - 1)) (codes "0") (register_name (length p.widths))) (reg_list (length p.widths + 1) h.regs) rest h.rest s
-      (h.split ∙ ap (λ k. reg_list k h.regs ++ h.rest) n);
+          (h.split ∙ ap (λ k. reg_list k h.regs ++ h.rest) n);
       more = subst (λ x. Wiring x q h.rest) (sym (more_regs p w h.regs)) h.more;
       room = t;
       wide = (i, h.wide);

@@ -1,5 +1,5 @@
 -- A text is read by what its tokens say.
-use Rattle.std.proofs.Common.{ℕ, ◌≡◌, List, [], ◌∷◌, map, Bool, true, false, cond, Option, Some, None, Result, Ok, Err, refl, ap, sym, ◌∙◌, subst}
+use Rattle.std.proofs.Common.{ℕ, ◌≡◌, List, [], ◌∷◌, map, Bool, true, false, cond, Option, Some, None, Ok, refl, ap, sym, ◌∙◌, subst}
 use Rattle.ver_text.specs.declared.kind.Kind.{Kind}
 use Rattle.ver_text.specs.declared.token.Token.{Token}
 use Rattle.ver_text.specs.declared.grammar.State.{State}
@@ -9,10 +9,10 @@ use Rattle.ver_text.specs.declared.progress.Progress.{Progress}
 use Rattle.ver_text.specs.Kinds.{is_word}
 use Rattle.ver_text.specs.Grammar.{step, is_whole}
 use Rattle.ver_text.specs.Tokens.{text_of, refused}
-use Rattle.ver_text.specs.Parts.{ends, opens, moved, moved_to, with_form, with_word, with_head, parts}
+use Rattle.ver_text.specs.Parts.{ends, opens, moved, moved_to, with_form, parts}
 use Rattle.ver_text.specs.Due.{due, due_by}
 use Rattle.ver_text.specs.Reading.{judged}
-use Rattle.ver_text.specs.Spelling.{Sign, sign}
+use Rattle.ver_text.specs.Spelling.{Sign}
 use Rattle.ver_text.specs.TextLaw.{sign_of}
 
 -- how far a text was read, without places

@@ -1,8 +1,8 @@
 -- A text that is read as a netlist spells it.
-use Rattle.std.proofs.Common.{ℕ, zero, suc, ◌≡◌, ◌≢◌, ◌+◌, ◌-◌, ◌^◌, ◌<◌, ◌≤◌, List, [], ◌∷◌, ◌++◌, length, drop, map, Bool, true, false, ◌&&◌, cond, Option, Some, None, Result, Ok, Err, refl, ap, sym, subst, ◌∙◌, append_assoc, length-append, arith}
-use Rattle.std.specs.Prelude.{codes, decimal, nat_eq, nat_le, slice_get, slice_index, All, AllPairs, IfOk}
+use Rattle.std.proofs.Common.{ℕ, zero, suc, ◌≡◌, ◌≢◌, ◌+◌, ◌^◌, ◌<◌, ◌≤◌, List, [], ◌∷◌, ◌++◌, length, drop, map, Bool, true, false, ◌&&◌, cond, Option, Some, None, Result, Ok, Err, refl, ap, sym, subst, ◌∙◌, append_assoc, length-append, arith}
+use Rattle.std.specs.Prelude.{codes, nat_eq, nat_le, slice_index, AllPairs, IfOk}
 use Rattle.std.specs.List.{AllByRecursion, list_all, starts_with}
-use Rattle.std.proofs.lemmas.List.{append-nil, drop_at, length-map}
+use Rattle.std.proofs.lemmas.List.{drop_at, length-map}
 use Rattle.std.proofs.lemmas.List.Elements.{All-from_recursion}
 use Rattle.std.proofs.lemmas.List.Kept.{AllPairs-cons}
 use Rattle.dip_sets.specs.Names.{is_name, is_name_byte, begins_with_letter}
@@ -13,22 +13,21 @@ use Rattle.net_cells.specs.declared.netlist.CellOp.{CellOp}
 use Rattle.net_cells.specs.declared.netlist.CellOp.TheVariants as op
 use Rattle.net_cells.specs.declared.netlist.OutPort.{OutPort}
 use Rattle.net_cells.specs.declared.netlist.Netlist.{Netlist}
-use Rattle.net_cells.specs.Rules.{IsWellFormed, IsNamed, IsCell, IsWidth, IsNet, HasWidth, widths, sources, port_names}
+use Rattle.net_cells.specs.Rules.{IsNamed, IsCell, IsWidth, IsNet, HasWidth, widths, port_names}
 use Rattle.ver_text.specs.declared.kind.Kind.TheVariants as kind
-use Rattle.ver_text.specs.declared.scan.Lexeme.{Lexeme}
 use Rattle.ver_text.specs.declared.token.Token.{Token}
 use Rattle.ver_text.specs.declared.progress.Progress.{Progress}
 use Rattle.ver_text.specs.declared.fault.TextFault.{TextFault}
 use Rattle.ver_text.specs.Kinds.{is_gap}
 use Rattle.ver_text.specs.Grammar.{start}
 use Rattle.ver_text.specs.Lexemes.{first_lexeme}
-use Rattle.ver_text.specs.Tokens.{found, tokens_at, tokens_from, refused}
+use Rattle.ver_text.specs.Tokens.{tokens_at, tokens_from, refused}
 use Rattle.ver_text.specs.Parts.{at_start, parts}
 use Rattle.ver_text.specs.Due.{at_first, is_named}
 use Rattle.ver_text.specs.Reading.{read_text, parts_say, unless_refused, netlist_of, named_netlist, judged, Gives}
 use Rattle.ver_text.specs.Spelling as spec
 use Rattle.ver_text.specs.Spelling.{Sign, signs, part_signs, spelling, header, declarations, values, net_name, expression, assignment, cell_name}
-use Rattle.ver_text.specs.TextLaw.{HasNames, Spells, ReadSpells, sign_of}
+use Rattle.ver_text.specs.TextLaw.{Spells, ReadSpells, sign_of}
 use Rattle.ver_text.proofs.Signs.{said}
 use Rattle.ver_text.proofs.Segments.{seen_start}
 use Rattle.ver_text.proofs.Exact.{both_true, le_of}
@@ -37,9 +36,9 @@ use Rattle.ver_text.proofs.ValueParts.{declared_as, with_outputs, with_updates}
 use Rattle.ver_text.proofs.PortParts.{headed, names_of, widths_of, Apart, IsPort}
 use Rattle.ver_text.proofs.Spelled.{made, regroup}
 use Rattle.ver_text.proofs.Told.{Bare, told, all_bare}
-use Rattle.ver_text.proofs.Heard.{plain, named, assigned_signs}
-use Rattle.ver_text.proofs.Taken.{called, expressed, cell_signs}
-use Rattle.ver_text.proofs.Items.{reg_list, wire_list, cell_list, out_list, update_list, with_regs, with_wires, Registering, items, Counted}
+use Rattle.ver_text.proofs.Heard.{plain, assigned_signs}
+use Rattle.ver_text.proofs.Taken.{called, expressed}
+use Rattle.ver_text.proofs.Items.{reg_list, wire_list, cell_list, out_list, update_list, with_regs, with_wires, Registering, items}
 use Rattle.ver_text.proofs.Heads.{reset_port, head_signs, reset_signs, close_signs, in_list, out_ports, HeadRead, head, PortsRead, ports}
 
 -- ---- all that was read
@@ -72,10 +71,10 @@ record Got (q : Progress) (ss : List Sign) : Type 0 where
   pub wide_wires : AllByRecursion IsWidth vs
   pub final : with_updates (with_outputs (with_cells (with_wires (with_regs (headed name (ins_of is) ds) gs) vs) cs) os) rs ≡ q
   pub split :
-    ss
-    ≡ head_signs name ++ (reset_signs ++ (in_list is ++ (out_ports ds ++ (close_signs ++ (reg_list (length (widths_of (ins_of is))) gs
-    ++ (wire_list (length (widths_of (ins_of is) ++ gs)) vs ++ (cell_list (call_of is (length gs)) (length (ins_of is) + length gs) cs
-    ++ (out_list (call_of is (length gs)) os ++ (update_list (call_of is (length gs)) (length (ins_of is)) rs ++ plain kind.Endmodule ∷ [])))))))))
+      ss
+      ≡ head_signs name ++ (reset_signs ++ (in_list is ++ (out_ports ds ++ (close_signs ++ (reg_list (length (widths_of (ins_of is))) gs
+      ++ (wire_list (length (widths_of (ins_of is) ++ gs)) vs ++ (cell_list (call_of is (length gs)) (length (ins_of is) + length gs) cs
+      ++ (out_list (call_of is (length gs)) os ++ (update_list (call_of is (length gs)) (length (ins_of is)) rs ++ plain kind.Endmodule ∷ [])))))))))
   pub all : length (ins_of is) + length rs ≡ length (ins_of is) + length gs
   pub nexts : AllByRecursion (λ (r : Reg). HasWidth (all_widths is gs vs) r.next r.width) rs
   pub reg_wide : drop (length (ins_of is)) (all_widths is gs vs) ≡ map (λ (r : Reg). r.width) rs ++ drop (length (ins_of is) + length gs) (all_widths is gs vs)
@@ -112,9 +111,9 @@ gathered ss q h p r =
       wide_wires = w.wide;
       final = u.final;
       split = ten_parts ss (head_signs h.name) reset_signs (in_list p.inputs) (out_ports p.outputs) close_signs (reg_list (length (widths_of (ins_of p.inputs))) r.regs)
-      (wire_list (length (widths_of (ins_of p.inputs) ++ r.regs)) w.wires) (cell_list (call_of p.inputs (length r.regs)) (length (ins_of p.inputs) + length r.regs) v.cells)
-      (out_list (call_of p.inputs (length r.regs)) s.outs) (update_list (call_of p.inputs (length r.regs)) (length (ins_of p.inputs)) u.regs) (plain kind.Endmodule ∷ [])
-      h.rest p.rest r.rest w.rest v.rest s.rest [] h.split p.split r.split w.split v.split s.split u.split;
+          (wire_list (length (widths_of (ins_of p.inputs) ++ r.regs)) w.wires) (cell_list (call_of p.inputs (length r.regs)) (length (ins_of p.inputs) + length r.regs) v.cells)
+          (out_list (call_of p.inputs (length r.regs)) s.outs) (update_list (call_of p.inputs (length r.regs)) (length (ins_of p.inputs)) u.regs) (plain kind.Endmodule ∷ [])
+          h.rest p.rest r.rest w.rest v.rest s.rest [] h.split p.split r.split w.split v.split s.split u.split;
       all = u.all;
       nexts = u.nexts;
       reg_wide = u.wide;
@@ -309,9 +308,16 @@ wires_long (v ∷ vs) k = let h : length vs ≤ length (wire_list (k + 1) vs) = 
 
 parts_long : (H R I O C G W X : List Sign) → length H + length I + length G + length W ≤ length (H ++ (R ++ (I ++ (O ++ (C ++ (G ++ (W ++ X)))))))
 parts_long H R I O C G W X =
-    omega (arith, length-append H (R ++ (I ++ (O ++ (C ++ (G ++ (W ++ X)))))), length-append R (I ++ (O ++ (C ++ (G ++ (W ++ X))))),
-    length-append I (O ++ (C ++ (G ++ (W ++ X)))), length-append O (C ++ (G ++ (W ++ X))), length-append C (G ++ (W ++ X)), length-append G (W ++ X),
-    length-append W X)
+    omega (
+      arith,
+      length-append H (R ++ (I ++ (O ++ (C ++ (G ++ (W ++ X)))))),
+      length-append R (I ++ (O ++ (C ++ (G ++ (W ++ X))))),
+      length-append I (O ++ (C ++ (G ++ (W ++ X)))),
+      length-append O (C ++ (G ++ (W ++ X))),
+      length-append C (G ++ (W ++ X)),
+      length-append G (W ++ X),
+      length-append W X,
+    )
 
 nets_few : (q : Progress) (ss : List Sign) (g : Got q ss) → length (all_widths g.is g.gs g.vs) ≤ length ss
 nets_few q ss g =
@@ -365,18 +371,18 @@ netlist_by q ss g text l t =
         name = named_so (codes "m_") g.name g.front g.form;
         reset = refl;
         inputs = All-from_recursion (λ (p : Port). IsNamed (codes "p_") p.name) g.is
-        (ports_have (λ p. IsNamed (codes "p_") p.name) (λ p h. named_so (codes "p_") p.name h.front h.form) g.is g.ins);
+            (ports_have (λ p. IsNamed (codes "p_") p.name) (λ p h. named_so (codes "p_") p.name h.front h.form) g.is g.ins);
         outputs = All-from_recursion (λ (o : OutPort). IsNamed (codes "p_") o.name) g.os
-        (outs_have (IsNamed (codes "p_")) w (λ p h. named_so (codes "p_") p.name h.front h.form) g.os outs);
+            (outs_have (IsNamed (codes "p_")) w (λ p h. named_so (codes "p_") p.name h.front h.form) g.os outs);
         distinct = pairs_from (port_names n) apart;
         few = subst (λ ws. length ws < 2 ^ 64) same less;
         sized = All-from_recursion IsWidth (widths n) (subst (AllByRecursion IsWidth) same sized);
         registers = All-from_recursion (λ (r : Reg). HasWidth (widths n) r.next r.width) g.rs
-        (subst (λ ws. AllByRecursion (λ (r : Reg). HasWidth ws r.next r.width) g.rs) same g.nexts);
+            (subst (λ ws. AllByRecursion (λ (r : Reg). HasWidth ws r.next r.width) g.rs) same g.nexts);
         cells = All-from_recursion (λ (c : Cell). IsCell (widths n) c.width c.op) g.cs
-        (subst (λ ws. AllByRecursion (λ (c : Cell). IsCell ws c.width c.op) g.cs) same g.rules);
+            (subst (λ ws. AllByRecursion (λ (c : Cell). IsCell ws c.width c.op) g.cs) same g.rules);
         shown = All-from_recursion (λ (o : OutPort). IsNet (widths n) o.net) g.os
-        (subst (λ ws. AllByRecursion (λ (o : OutPort). IsNet ws o.net) g.os) same g.within);
+            (subst (λ ws. AllByRecursion (λ (o : OutPort). IsNet ws o.net) g.os) same g.within);
       };
       names = record {
         heading = g.form;
@@ -384,20 +390,20 @@ netlist_by q ss g text l t =
         outputs = outs_have (λ x. is_name x ≡ true) w (λ p h. h.form) g.os outs;
       };
       signs = t ∙ (g.split
-      ∙ (seven_same (head_signs g.name) reset_signs (in_list g.is) (out_ports g.ds) close_signs (reg_list (length (widths_of (ins_of g.is))) g.gs)
-      (wire_list (length (widths_of (ins_of g.is) ++ g.gs)) g.vs) (cell_list (call_of g.is (length g.gs)) (length (ins_of g.is) + length g.gs) g.cs)
-      (out_list (call_of g.is (length g.gs)) g.os) (update_list (call_of g.is (length g.gs)) (length (ins_of g.is)) g.rs) (plain kind.Endmodule ∷ [])
-      (part_signs (spec.inputs g.is)) (part_signs (spec.outputs (widths n) g.os)) (part_signs (spec.registers (length (ins_of g.is)) g.rs))
-      (part_signs (spec.wires (length (ins_of g.is) + length g.rs) g.cs)) (part_signs (spec.cell_values n (length (ins_of g.is) + length g.rs) g.cs))
-      (part_signs (spec.output_values n g.os)) (part_signs (spec.updates n (length (ins_of g.is)) g.rs))
-      (ins_same g.is)
-      (ap out_ports g.declared ∙ (ap (λ ws. out_ports (map (declared_as ws) g.os)) same ∙ outs_same g.os (widths n)))
-      (ap (λ x. reg_list x g.gs) k ∙ (ap (reg_list (length (ins_of g.is))) regs ∙ regs_same g.rs (length (ins_of g.is))))
-      (ap (λ x. wire_list x g.vs) m ∙ (ap (wire_list (length (ins_of g.is) + length g.rs)) cells ∙ wires_same g.cs (length (ins_of g.is) + length g.rs)))
-      (ap (λ x. cell_list (called (ins_of g.is) x) x g.cs) count ∙ cells_same n g.cs (length (ins_of g.is) + length g.rs))
-      (ap (λ x. out_list (called (ins_of g.is) x) g.os) count ∙ shown_same n g.os)
-      (ap (λ x. update_list (called (ins_of g.is) x) (length (ins_of g.is)) g.rs) count ∙ updates_same n g.rs (length (ins_of g.is)))
-      ∙ spelled g.name g.is g.rs g.cs g.os));
+          ∙ (seven_same (head_signs g.name) reset_signs (in_list g.is) (out_ports g.ds) close_signs (reg_list (length (widths_of (ins_of g.is))) g.gs)
+          (wire_list (length (widths_of (ins_of g.is) ++ g.gs)) g.vs) (cell_list (call_of g.is (length g.gs)) (length (ins_of g.is) + length g.gs) g.cs)
+          (out_list (call_of g.is (length g.gs)) g.os) (update_list (call_of g.is (length g.gs)) (length (ins_of g.is)) g.rs) (plain kind.Endmodule ∷ [])
+          (part_signs (spec.inputs g.is)) (part_signs (spec.outputs (widths n) g.os)) (part_signs (spec.registers (length (ins_of g.is)) g.rs))
+          (part_signs (spec.wires (length (ins_of g.is) + length g.rs) g.cs)) (part_signs (spec.cell_values n (length (ins_of g.is) + length g.rs) g.cs))
+          (part_signs (spec.output_values n g.os)) (part_signs (spec.updates n (length (ins_of g.is)) g.rs))
+          (ins_same g.is)
+          (ap out_ports g.declared ∙ (ap (λ ws. out_ports (map (declared_as ws) g.os)) same ∙ outs_same g.os (widths n)))
+          (ap (λ x. reg_list x g.gs) k ∙ (ap (reg_list (length (ins_of g.is))) regs ∙ regs_same g.rs (length (ins_of g.is))))
+          (ap (λ x. wire_list x g.vs) m ∙ (ap (wire_list (length (ins_of g.is) + length g.rs)) cells ∙ wires_same g.cs (length (ins_of g.is) + length g.rs)))
+          (ap (λ x. cell_list (called (ins_of g.is) x) x g.cs) count ∙ cells_same n g.cs (length (ins_of g.is) + length g.rs))
+          (ap (λ x. out_list (called (ins_of g.is) x) g.os) count ∙ shown_same n g.os)
+          (ap (λ x. update_list (called (ins_of g.is) x) (length (ins_of g.is)) g.rs) count ∙ updates_same n g.rs (length (ins_of g.is)))
+          ∙ spelled g.name g.is g.rs g.cs g.os));
     }
 
 -- ---- texts

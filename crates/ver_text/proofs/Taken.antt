@@ -1,8 +1,7 @@
 -- What a part says that is due.
-use Rattle.std.proofs.Common.{ℕ, zero, suc, ◌≡◌, ◌+◌, ◌-◌, ◌^◌, ◌<◌, ◌≤◌, List, [], ◌∷◌, ◌++◌, length, drop, map, Bool, true, false, not, ◌&&◌, cond, Option, Some, None, refl, ap, sym, subst, ◌∙◌, arith}
+use Rattle.std.proofs.Common.{ℕ, zero, suc, ◌≡◌, ◌+◌, ◌-◌, ◌<◌, ◌≤◌, List, [], ◌∷◌, ◌++◌, length, Bool, true, false, not, ◌&&◌, cond, Option, Some, None, refl, ap, sym, subst, ◌∙◌, arith}
 use Rattle.std.specs.Prelude.{codes, decimal, nat_lt, nat_le, ◌==◌, slice_get, slice_index}
 use Rattle.std.specs.Str.{bytes_eq}
-use Rattle.std.proofs.lemmas.Bool.{false≢true}
 use Rattle.std.proofs.lemmas.Bool.Decides.{nat_tests}
 use Rattle.std.proofs.lemmas.Slice.Eq.{bytes_eq-Decides}
 use Rattle.net_cells.specs.declared.netlist.Port.{Port}
@@ -18,7 +17,7 @@ use Rattle.ver_text.specs.declared.progress.Progress.{Progress}
 use Rattle.ver_text.specs.Kinds.{same_kind}
 use Rattle.ver_text.specs.Numerals.{number_of, number_below, literal, literal_of, is_numbered, numbered}
 use Rattle.ver_text.specs.Fits.{is_cell}
-use Rattle.ver_text.specs.Due.{place_from, if_within, cell_named, register_named, net_named, width_of, takes_registers, takes_wires, due_register, due_wire, binary, binary_of, const_of, not_of, mux_of, select_of, cell_op, target, with_cell, due_cell, with_shown, shown_next, is_port, next_output, due_shown, due_assignment, has_values, with_next, is_next_update, due_update, due_end, is_none}
+use Rattle.ver_text.specs.Due.{place_from, if_within, cell_named, register_named, net_named, width_of, takes_registers, takes_wires, due_register, due_wire, binary, binary_of, const_of, not_of, mux_of, select_of, cell_op, target, with_cell, due_cell, shown_next, is_port, next_output, due_shown, due_assignment, has_values, with_next, is_next_update, due_update, due_end, is_none}
 use Rattle.ver_text.specs.Spelling.{Sign, name_in, register_name, cell_name}
 use Rattle.ver_text.specs.TestLaw.{IsRangeIn}
 use Rattle.ver_text.proofs.Exact.{both_true, lt_of, le_of, eq_of, lt_to, number_is, below_is, range_is, literal_is, cell_is}
@@ -353,7 +352,7 @@ cell_by p after form fourth third second last width (Some o) w c h l r t e =
       width = w;
       «rule» = cell_is p.widths width o k.holds;
       signs = joined (target form fourth third second) (cell_name p.next_cell) (valued form third second last) (expressed (calls p) width o)
-      (numbered_so 119 p.next_cell (target form fourth third second) t) (meant form p width third second last o h l c);
+          (numbered_so 119 p.next_cell (target form fourth third second) t) (meant form p width third second last o h l c);
       same = k.same;
     }
 
@@ -441,7 +440,7 @@ update_by p after clock register next (Some net) t h l i e =
       width = refl;
       has = (r.within, eq_of (slice_index p.widths net) width k.holds);
       signs = three update_signs clock register next (codes "clock") (register_name p.next_register) (calls p net)
-      ((bytes_eq-Decides clock (codes "clock")).0 f.third) (numbered_so 114 p.next_register register f.fourth) r.same;
+          ((bytes_eq-Decides clock (codes "clock")).0 f.third) (numbered_so 114 p.next_register register f.fourth) r.same;
       same = k.same;
     }
 

@@ -1,7 +1,6 @@
 -- Where a text is read as a netlist, its tokens say what was read.
-use Rattle.std.proofs.Common.{ℕ, ◌≡◌, List, [], ◌∷◌, map, Bool, true, false, cond, Option, Some, None, Result, Ok, Err, refl, ap, sym, subst, ◌∙◌}
+use Rattle.std.proofs.Common.{ℕ, ◌≡◌, List, [], ◌∷◌, map, Bool, true, false, cond, Option, Some, None, Result, Ok, Err, refl, subst}
 use Rattle.std.specs.List.{AllByRecursion}
-use Rattle.ver_text.specs.declared.kind.Kind.{Kind}
 use Rattle.ver_text.specs.declared.token.Token.{Token}
 use Rattle.ver_text.specs.declared.grammar.State.{State}
 use Rattle.ver_text.specs.declared.part.Cursor.{Cursor}
@@ -9,8 +8,7 @@ use Rattle.ver_text.specs.declared.progress.Progress.{Progress}
 use Rattle.ver_text.specs.Kinds.{is_word}
 use Rattle.ver_text.specs.Grammar.{step, is_whole}
 use Rattle.ver_text.specs.Tokens.{text_of, refused}
-use Rattle.ver_text.specs.Parts.{ends, moved, moved_to, parts}
-use Rattle.ver_text.specs.Due.{due}
+use Rattle.ver_text.specs.Parts.{ends, moved_to, parts}
 use Rattle.ver_text.specs.Reading.{judged}
 use Rattle.ver_text.specs.Spelling.{Sign}
 use Rattle.ver_text.specs.TextLaw.{sign_of}

@@ -1,5 +1,5 @@
 -- What it means that a text spells a netlist.
-use Rattle.std.specs.Prelude.{◌≡◌, ◌<◌, ◌^◌, ℕ, List, length, map, IsTrue, Result, Ok}
+use Rattle.std.specs.Prelude.{◌≡◌, ◌<◌, ◌^◌, ℕ, List, length, map, IsTrue, Ok}
 use Rattle.std.specs.List.{AllByRecursion}
 use Rattle.dip_sets.specs.Names.{is_name}
 use Rattle.net_cells.specs.declared.netlist.Port.{Port}
