@@ -1,4 +1,4 @@
-//! The program `soc_bench`: one piece of work on made input, for measuring.
+//! The program `soc_bench`: pieces of work on made input, for measuring.
 #![tactic(auto)]
 
 mod made;
@@ -7,25 +7,69 @@ mod run;
 use std::env;
 use std::process::ExitCode;
 
-const USAGE: &str = "usage: soc_bench engine CELLS CYCLES";
+const USAGE: &str = "usage: soc_bench WORK CELLS TIMES .., where WORK is engine, print or read";
 
-/// Prints what the words ask for: `None` where they ask for nothing that there is.
-fn answer(rt: &HostRuntime, words: &[String]) -> Option<u8> {
-    let [work, cells, cycles] = words else {
-        return None;
-    };
-    let (Ok(cells), Ok(cycles)) = (cells.parse(), cycles.parse()) else {
-        return None;
-    };
-    if work.as_str() != "engine" {
-        return None;
+/// What can be done with a made netlist.
+#[derive(Debug, Clone, Copy)]
+enum Work {
+    /// So many cycles of it.
+    Engine,
+    /// Its text, so many times.
+    Print,
+    /// Reading its text, so many times.
+    Read,
+}
+
+/// A piece of work.
+#[derive(Debug, Clone, Copy)]
+struct Piece {
+    work: Work,
+    /// How many cells the netlist has.
+    cells: u64,
+    /// How often it is done.
+    times: u64,
+}
+
+fn work_named(name: &str) -> Option<Work> {
+    match name {
+        "engine" => Some(Work::Engine),
+        "print" => Some(Work::Print),
+        "read" => Some(Work::Read),
+        _ => None,
     }
-    let Ok(Some(state)) = run::engine(rt.alloc(), cells, cycles) else {
-        return Some(1);
+}
+
+/// The piece of work that three words ask for; `None` where they ask for nothing that there is.
+fn piece_of(words: &[String]) -> Option<Piece> {
+    let [work, cells, times] = words else {
+        return None;
     };
-    match println!(rt; "cells {cells} cycles {cycles} state {state:x}") {
-        Ok(()) => Some(0),
-        Err(_) => Some(1),
+    let (Ok(cells), Ok(times)) = (cells.parse(), times.parse()) else {
+        return None;
+    };
+    Some(Piece {
+        work: work_named(work.as_str())?,
+        cells,
+        times,
+    })
+}
+
+/// Does a piece of work and prints its counts; `None` where that fails.
+fn counted(rt: &HostRuntime, piece: Piece) -> Option<()> {
+    let Piece { work, cells, times } = piece;
+    match work {
+        Work::Engine => {
+            let state = run::engine(rt.alloc(), cells, times).ok()??;
+            println!(rt; "cells {cells} cycles {times} state {state:x}").ok()
+        }
+        Work::Print => {
+            let bytes = run::printed(rt.alloc(), cells, times).ok()??;
+            println!(rt; "cells {cells} printed {times} times, {bytes} bytes").ok()
+        }
+        Work::Read => {
+            let nets = run::read_again(rt.alloc(), cells, times).ok()??;
+            println!(rt; "cells {cells} read {times} times, {nets} cells").ok()
+        }
     }
 }
 
@@ -37,15 +81,30 @@ fn words_of(rt: &HostRuntime) -> Option<Vec<String>> {
     Some(words)
 }
 
-fn main(rt: HostRuntime) -> ExitCode {
-    let Some(words) = words_of(&rt) else {
-        return ExitCode::from(1);
-    };
-    match answer(&rt, words.as_slice()) {
-        Some(code) => ExitCode::from(code),
-        None => {
-            let _ = println!(rt; "{USAGE}");
-            ExitCode::from(2)
+fn usage(rt: &HostRuntime) -> u8 {
+    let _ = println!(rt; "{USAGE}");
+    2
+}
+
+/// Does the pieces of work that words ask for, three words each.
+fn status(rt: &HostRuntime, words: &[String]) -> u8 {
+    if words.is_empty() {
+        return usage(rt);
+    }
+    for words in words.chunks(3) {
+        let Some(piece) = piece_of(words) else {
+            return usage(rt);
+        };
+        if counted(rt, piece).is_none() {
+            return 1;
         }
+    }
+    0
+}
+
+fn main(rt: HostRuntime) -> ExitCode {
+    match words_of(&rt) {
+        Some(words) => ExitCode::from(status(&rt, words.as_slice())),
+        None => ExitCode::from(1),
     }
 }

@@ -1,9 +1,8 @@
 -- The values of cells are read one after another.
-use Rattle.std.proofs.Common.{ℕ, zero, suc, ◌≡◌, ◌≢◌, ◌+◌, ◌-◌, ◌^◌, ◌<◌, ◌≤◌, List, [], ◌∷◌, ◌++◌, length, drop, map, Bool, true, false, ◌&&◌, cond, Option, Some, None, refl, ap, sym, subst, ◌∙◌, append_assoc, length-append, length-drop, add-one, arith}
-use Rattle.std.specs.Prelude.{codes, decimal, nat_lt, nat_le, ◌==◌, slice_get, slice_index}
+use Rattle.std.proofs.Common.{ℕ, zero, suc, ◌≡◌, ◌+◌, ◌^◌, ◌<◌, ◌≤◌, List, [], ◌∷◌, ◌++◌, length, drop, map, true, Some, refl, ap, sym, subst, ◌∙◌, append_assoc, arith}
+use Rattle.std.specs.Prelude.{decimal, slice_get, slice_index}
 use Rattle.std.specs.List.{AllByRecursion}
 use Rattle.std.proofs.lemmas.List.{append-nil}
-use Rattle.net_cells.specs.declared.netlist.Port.{Port}
 use Rattle.net_cells.specs.declared.netlist.Cell.{Cell}
 use Rattle.net_cells.specs.declared.netlist.CellOp.{CellOp}
 use Rattle.net_cells.specs.declared.netlist.CellOp.TheVariants.{Const, Not, And, Or, Xor, Add, Sub, Eq, Less, Mux, Concat, Select}
@@ -13,13 +12,13 @@ use Rattle.ver_text.specs.declared.kind.Kind.{Kind}
 use Rattle.ver_text.specs.declared.kind.Kind.TheVariants as kind
 use Rattle.ver_text.specs.declared.kind.Rule.TheVariants as rule
 use Rattle.ver_text.specs.declared.progress.Progress.{Progress}
-use Rattle.ver_text.specs.Numerals.{is_numbered, literal, literal_of, number_below}
+use Rattle.ver_text.specs.Numerals.{is_numbered, literal}
 use Rattle.ver_text.specs.Fits.{is_cell}
-use Rattle.ver_text.specs.Due.{due_by, due_assignment, due_cell, cell_op, target, with_cell, net_named}
+use Rattle.ver_text.specs.Due.{due_by, due_assignment, due_cell, cell_op, target, net_named}
 use Rattle.ver_text.specs.Spelling as spec
 use Rattle.ver_text.specs.Spelling.{Sign, signs, part_signs, net_name, name_in, cell_name, expression, assignment}
 use Rattle.ver_text.proofs.Signs.{Seen, said}
-use Rattle.ver_text.proofs.Segments.{Boundary, due_then, literal_said, not_said, and_said, or_said, xor_said, plus_said, minus_said, equal_said, less_said, mux_said, concat_said, select_said}
+use Rattle.ver_text.proofs.Segments.{Boundary, literal_said, not_said, and_said, or_said, xor_said, plus_said, minus_said, equal_said, less_said, mux_said, concat_said, select_said}
 use Rattle.ver_text.proofs.Readback.{below_read, numbered_is}
 use Rattle.ver_text.proofs.Exact.{lt_to, cell_in}
 use Rattle.ver_text.proofs.Groups.{said_same}
@@ -186,12 +185,12 @@ front_width (x ∷ xs) (suc k) w rest e =
 abbrev pub with_cells : Progress → List Cell → Progress
 with_cells p cs = record p { cells = p.cells ++ cs; next_cell = p.next_cell + length cs }
 
-no_cells : (p : Progress) → with_cells p [] ≡ p
+pub no_cells : (p : Progress) → with_cells p [] ≡ p
 no_cells p =
     let n : p.next_cell + 0 ≡ p.next_cell = omega arith in
     ap (λ (xs : List Cell). record p { cells = xs; next_cell = p.next_cell + 0 }) (append-nil p.cells) ∙ ap (λ m. record p { next_cell = m }) n
 
-more_cells : (p : Progress) (c : Cell) (cs : List Cell) → with_cells p (c ∷ cs) ≡ with_cells (celled p c) cs
+pub more_cells : (p : Progress) (c : Cell) (cs : List Cell) → with_cells p (c ∷ cs) ≡ with_cells (celled p c) cs
 more_cells p c cs =
     let n : p.next_cell + suc (length cs) ≡ p.next_cell + 1 + length cs = omega arith in
     ap (λ (xs : List Cell). record p { cells = xs; next_cell = p.next_cell + suc (length cs) }) (sym (append_assoc p.cells (c ∷ []) cs))

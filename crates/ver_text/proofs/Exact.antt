@@ -1,5 +1,5 @@
 -- The tests of parts say what they are to.
-use Rattle.std.proofs.Common.{ℕ, ◌≡◌, ◌↔◌, ◌+◌, ◌-◌, ◌*◌, ◌^◌, ◌<◌, ◌≤◌, List, [], ◌∷◌, ◌++◌, length, drop, Bool, true, false, ◌&&◌, cond, Option, Some, None, refl, ap, sym, subst, ◌∙◌, arith}
+use Rattle.std.proofs.Common.{ℕ, ◌≡◌, ◌+◌, ◌-◌, ◌*◌, ◌^◌, ◌<◌, ◌≤◌, List, [], ◌∷◌, length, drop, Bool, true, false, ◌&&◌, cond, Option, Some, None, refl, ap, subst, ◌∙◌, arith}
 use Rattle.std.specs.Prelude.{decimal, codes, nat_lt, nat_le, ◌==◌, slice_index}
 use Rattle.std.specs.List.{prefix_len}
 use Rattle.std.specs.Str.{bytes_eq}
@@ -8,7 +8,7 @@ use Rattle.std.proofs.lemmas.Slice.Eq.{bytes_eq-Decides}
 use Rattle.std.proofs.lemmas.Bool.Decides.{nat_tests}
 use Rattle.net_cells.specs.declared.netlist.CellOp.{CellOp}
 use Rattle.net_cells.specs.declared.netlist.CellOp.TheVariants.{Const, Not, And, Or, Xor, Add, Sub, Eq, Less, Mux, Concat, Select}
-use Rattle.net_cells.specs.Rules.{IsCell, IsWidth, IsNet, HasWidth, HaveWidth, HaveOneWidth, width_at}
+use Rattle.net_cells.specs.Rules.{IsCell, IsWidth, HasWidth, HaveWidth, HaveOneWidth}
 use Rattle.ver_text.specs.Lexemes.{is_digit}
 use Rattle.ver_text.specs.Numerals.{digit_value, numeral, written, number_of, number_below, if_below, literal, literal_of}
 use Rattle.ver_text.specs.Due.{width_of, width_by}
@@ -28,13 +28,13 @@ when_true : (b : Bool) (v n : ℕ) → cond b (Some v) None ≡ Some n → (b �
 when_true true v n e = (refl, cc)
 when_true false v n e = cc
 
-lt_of : (a b : ℕ) → nat_lt a b ≡ true → a < b
+pub lt_of : (a b : ℕ) → nat_lt a b ≡ true → a < b
 lt_of a b h = grind (arith, nat_tests)
 
 pub lt_to : (a b : ℕ) → a < b → nat_lt a b ≡ true
 lt_to a b h = grind (arith, nat_tests)
 
-le_of : (a b : ℕ) → nat_le a b ≡ true → a ≤ b
+pub le_of : (a b : ℕ) → nat_le a b ≡ true → a ≤ b
 le_of a b h = grind (arith, nat_tests)
 
 pub le_to : (a b : ℕ) → a ≤ b → nat_le a b ≡ true
@@ -78,7 +78,7 @@ below_by limit n (Some v) e =
     let h = when_true (nat_lt v limit) v n e in
     (ap (λ x. Some x) h.1, subst (λ x. x < limit) h.1 (lt_of v limit h.0))
 
-below_is : (limit n : ℕ) (text : List ℕ) → number_below limit text ≡ Some n → (number_of text ≡ Some n) × (n < limit)
+pub below_is : (limit n : ℕ) (text : List ℕ) → number_below limit text ≡ Some n → (number_of text ≡ Some n) × (n < limit)
 unfolding number_below
 below_is limit n text e = below_by limit n (number_of text) e
 
@@ -91,14 +91,14 @@ range_by high low width (Some v) b e =
     let w : IsWidth width = (omega (arith, h.1), omega (arith, h.1, t.1)) in
     (w, (number_is high v t.0).1 ∙ ap decimal d, (bytes_eq-Decides low (codes "0")).0 h.0)
 
-range_is : (high low : List ℕ) (width : ℕ) → width_of high low ≡ Some width → IsRangeIn high low width
+pub range_is : (high low : List ℕ) (width : ℕ) → width_of high low ≡ Some width → IsRangeIn high low width
 unfolding width_of
 range_is high low width e = range_by high low width (number_below 64 high) refl e
 
 range_in : (high low : List ℕ) (width : ℕ) → IsRangeIn high low width → width_of high low ≡ Some width
 range_in high low width h = ap (λ x. width_of x low) h.1 ∙ (ap (λ x. width_of (decimal (width - 1)) x) h.2 ∙ width_read width h.0)
 
-literal_is : (width value : ℕ) (text : List ℕ) → literal_of width text ≡ Some value → text ≡ literal width value
+pub literal_is : (width value : ℕ) (text : List ℕ) → literal_of width text ≡ Some value → text ≡ literal width value
 unfolding literal_of
 literal_is width value text e = (written_so (literal width) text (numeral 16 0 (drop (prefix_len is_digit text + 2) text)) value e).0
 
@@ -157,7 +157,7 @@ select_in ws x hi lo width h =
     (join_true (is_net ws x) (nat_lt hi (slice_index ws x)) (lt_to x (length ws) h.0) (lt_to hi (slice_index ws x) h.1)) (le_to lo hi h.2))
     (eq_to width (hi - lo + 1) h.3)
 
-cell_is : (ws : List ℕ) (width : ℕ) (o : CellOp) → is_cell ws width o ≡ true → IsCell ws width o
+pub cell_is : (ws : List ℕ) (width : ℕ) (o : CellOp) → is_cell ws width o ≡ true → IsCell ws width o
 cell_is ws width (Const value) e = lt_of value (2 ^ width) e
 cell_is ws width (Not x) e = width_is ws x width e
 cell_is ws width (And x y) e = widths_are ws x y width e

@@ -1,23 +1,20 @@
 -- What well-formed netlists have, in the forms that reading asks for.
-use Rattle.std.proofs.Common.{ℕ, zero, suc, ◌≡◌, ◌≢◌, ◌+◌, ◌-◌, ◌*◌, ◌/◌, ◌%◌, ◌^◌, ◌<◌, ◌≤◌, List, [], ◌∷◌, ◌++◌, length, drop, map, get_or, Bool, true, false, not, ◌&&◌, cond, Option, Some, None, Result, Ok, refl, ap, sym, subst, ◌∙◌, append_assoc, length-append, arith}
-use Rattle.std.specs.Prelude.{codes, decimal, nat_eq, nat_le, slice_get, slice_index, All, AllPairs, ◌==◌}
+use Rattle.std.proofs.Common.{ℕ, suc, ◌≡◌, ◌≢◌, ◌+◌, ◌/◌, ◌%◌, ◌^◌, ◌<◌, ◌≤◌, List, [], ◌∷◌, ◌++◌, length, map, true, Option, Some, None, refl, ap, sym, arith}
+use Rattle.std.specs.Prelude.{codes, decimal, nat_eq, nat_le, slice_index, AllPairs}
 use Rattle.std.specs.List.{AllByRecursion, starts_with}
-use Rattle.std.proofs.lemmas.List.{length-map}
 use Rattle.std.proofs.lemmas.List.Elements.{recursion_from_All}
-use Rattle.std.proofs.lemmas.Bool.Decides.{nat_tests}
 use Rattle.std.proofs.lemmas.Fmt.{decimal_by_steps}
 use Rattle.dip_sets.specs.Names.{is_name}
 use Rattle.net_cells.specs.declared.netlist.Port.{Port}
 use Rattle.net_cells.specs.declared.netlist.Reg.{Reg}
 use Rattle.net_cells.specs.declared.netlist.Cell.{Cell}
 use Rattle.net_cells.specs.declared.netlist.OutPort.{OutPort}
-use Rattle.net_cells.specs.declared.netlist.Netlist.{Netlist}
-use Rattle.net_cells.specs.Rules.{IsWellFormed, IsNamed, IsCell, IsWidth, IsNet, HasWidth, widths, port_names}
+use Rattle.net_cells.specs.Rules.{IsWellFormed, IsNamed, IsCell, IsWidth, HasWidth, widths, port_names}
 use Rattle.ver_text.specs.Numerals.{number_of, numbered}
 use Rattle.ver_text.specs.Due.{is_named}
 use Rattle.ver_text.specs.TextLaw.{HasNames}
 use Rattle.ver_text.proofs.Exact.{number_is, both_true, join_true, le_to, eq_of}
-use Rattle.ver_text.proofs.NetNames.{Distinct, Unnumbered, at_place}
+use Rattle.ver_text.proofs.NetNames.{Distinct, Unnumbered}
 use Rattle.ver_text.proofs.ValueParts.{declared_as}
 use Rattle.ver_text.proofs.PortParts.{names_of, widths_of, Apart, IsPort}
 use Rattle.ver_text.proofs.Spelled.{reset_port, made, Good}

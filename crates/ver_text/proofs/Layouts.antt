@@ -1,10 +1,10 @@
 -- The printed text of a netlist spells it.
-use Rattle.std.proofs.Common.{ℕ, zero, suc, ◌≡◌, ◌≢◌, ◌+◌, ◌-◌, ◌^◌, ◌<◌, ◌≤◌, List, [], ◌∷◌, ◌++◌, length, take, drop, map, Bool, true, false, ◌&&◌, Option, Some, Result, Ok, refl, ap, sym, subst, ◌∙◌, append_assoc, length-append, arith}
-use Rattle.std.specs.Prelude.{codes, slice_get, slice_index, nat_eq}
+use Rattle.std.proofs.Common.{ℕ, ◌≡◌, ◌+◌, ◌^◌, ◌<◌, List, [], ◌∷◌, ◌++◌, length, map, true, false, refl, ap, sym, subst, ◌∙◌, append_assoc, length-append, arith}
+use Rattle.std.specs.Prelude.{codes, slice_index, nat_eq}
 use Rattle.std.specs.List.{AllByRecursion, starts_with}
 use Rattle.std.proofs.lemmas.List.{append-nil, length-map}
 use Rattle.std.proofs.lemmas.List.Elements.{recursion_from_All}
-use Rattle.dip_sets.specs.Names.{is_name, is_name_byte}
+use Rattle.dip_sets.specs.Names.{is_name}
 use Rattle.net_cells.specs.declared.netlist.Port.{Port}
 use Rattle.net_cells.specs.declared.netlist.Reg.{Reg}
 use Rattle.net_cells.specs.declared.netlist.Cell.{Cell}
@@ -16,10 +16,9 @@ use Rattle.ver_text.specs.Lexemes.{word_kind}
 use Rattle.ver_text.specs.Tokens.{tokens_from}
 use Rattle.ver_text.specs.Spelling as spec
 use Rattle.ver_text.specs.Spelling.{Piece, signs, laid, header, declarations, values, layout, spelling}
-use Rattle.ver_text.specs.Reading.{read_text}
 use Rattle.ver_text.specs.TextLaw.{HasNames, Spells, PrintedSpells, PrintedIsRead, sign_of}
 use Rattle.ver_text.proofs.Exact.{both_true, eq_of}
-use Rattle.ver_text.proofs.Lexing.{Scans, scan_all}
+use Rattle.ver_text.proofs.Lexing.{scan_all}
 use Rattle.ver_text.proofs.Words.{IsWord, name_word}
 use Rattle.ver_text.proofs.Printed.{Stand, join, to_scans, joined, all_joined, all_lines_are, all_signs_are, three_laid, three_signs, laid-append, Lexable, Begins, inputs_begin, outs_begin, heading_stands, close_stands, end_stands, regs_stand, wires_stand, cells_stand, outputs_stand, updates_stand, inputs_stand, outs_stand}
 use Rattle.ver_text.proofs.PortParts.{widths_of, IsPort}

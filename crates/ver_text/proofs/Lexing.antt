@@ -1,23 +1,17 @@
 -- Printed tokens are found in the text.
-use Rattle.std.proofs.Common.{ℕ, zero, suc, ◌≡◌, ◌≢◌, ◌+◌, ◌-◌, ◌*◌, ◌/◌, ◌%◌, ◌^◌, ◌<◌, ◌≤◌, List, [], ◌∷◌, ◌++◌, length, take, drop, map, Bool, true, false, not, ◌&&◌, ◌||◌, cond, Option, Some, None, refl, ap, sym, subst, ◌∙◌, append_assoc, length-append, arith}
-use Rattle.std.specs.Prelude.{codes, decimal, nat_lt, nat_le, ◌==◌, slice_index}
-use Rattle.std.specs.List.{prefix_len, list_all}
-use Rattle.std.specs.Str.{bytes_eq}
-use Rattle.std.proofs.lemmas.List.{append-nil, drop_at, take_at}
-use Rattle.std.proofs.lemmas.List.Folds.{prefix_len-append}
-use Rattle.std.proofs.lemmas.Bool.Decides.{nat_tests}
-use Rattle.dip_sets.specs.Names.{is_name, is_letter, is_name_byte, begins_with_letter}
+use Rattle.std.proofs.Common.{ℕ, ◌≡◌, ◌+◌, ◌-◌, ◌<◌, ◌≤◌, List, [], ◌∷◌, ◌++◌, length, take, drop, map, Bool, false, cond, refl, ap, sym, ◌∙◌, append_assoc, length-append, arith}
+use Rattle.std.specs.Prelude.{codes}
+use Rattle.std.proofs.lemmas.List.{drop_at, take_at}
 use Rattle.ver_text.specs.declared.kind.Kind.{Kind}
 use Rattle.ver_text.specs.declared.kind.Kind.TheVariants as kind
 use Rattle.ver_text.specs.declared.scan.Lexeme.{Lexeme}
 use Rattle.ver_text.specs.declared.token.Token.{Token}
-use Rattle.ver_text.specs.Kinds.{is_gap, is_word}
-use Rattle.ver_text.specs.Lexemes.{first_lexeme, lexeme_by, word_kind, word_of, word_lexeme, is_digit, is_hex}
-use Rattle.ver_text.specs.Tokens.{found, tokens_at, text_of}
-use Rattle.ver_text.specs.Spelling.{Piece, Sign, sign, signs, laid, tight, apart, last, tight_word, apart_name, tight_name}
+use Rattle.ver_text.specs.Kinds.{is_gap}
+use Rattle.ver_text.specs.Lexemes.{first_lexeme}
+use Rattle.ver_text.specs.Tokens.{found, tokens_at}
+use Rattle.ver_text.specs.Spelling.{Piece, sign, signs, laid, tight, apart, last}
 use Rattle.ver_text.specs.TextLaw.{sign_of}
 use Rattle.ver_text.proofs.Scans.{first}
-use Rattle.ver_text.proofs.Exact.{both_true}
 
 -- ---- one token and the gap behind it
 

@@ -1,8 +1,7 @@
 -- A written literal is read back.
-use Rattle.std.proofs.Common.{ℕ, zero, suc, ◌≡◌, ◌+◌, ◌-◌, ◌*◌, ◌/◌, ◌%◌, ◌^◌, ◌<◌, ◌≤◌, List, [], ◌∷◌, ◌++◌, length, drop, Bool, true, false, ◌&&◌, cond, Option, Some, None, refl, ap, sym, subst, ◌∙◌, append_assoc, length-append, arith}
-use Rattle.std.specs.Prelude.{codes, decimal, nat_lt, ◌==◌}
+use Rattle.std.proofs.Common.{ℕ, zero, suc, ◌≡◌, ◌+◌, ◌*◌, ◌/◌, ◌%◌, ◌^◌, ◌<◌, ◌≤◌, List, [], ◌∷◌, ◌++◌, length, drop, true, Option, Some, refl, ap, sym, ◌∙◌, append_assoc, length-append, arith}
+use Rattle.std.specs.Prelude.{codes, decimal, ◌==◌}
 use Rattle.std.specs.List.{prefix_len}
-use Rattle.std.specs.Str.{bytes_eq}
 use Rattle.std.proofs.lemmas.Bool.Decides.{nat_tests}
 use Rattle.std.proofs.lemmas.List.{drop_at}
 use Rattle.std.proofs.lemmas.List.Folds.{prefix_len-append}
@@ -12,7 +11,7 @@ use Rattle.std.proofs.Math.Nat.{add-mul, mul_assoc, mul-suc, mod-eq_of_lt}
 use Rattle.std.proofs.lemmas.Fmt.{decimal_by_steps}
 use Rattle.std.proofs.lemmas.Grind.{pow_more}
 use Rattle.ver_text.specs.Lexemes.{is_digit}
-use Rattle.ver_text.specs.Numerals.{hex_digit, hexadecimal, digit_value, numeral, written, literal, literal_of}
+use Rattle.ver_text.specs.Numerals.{hex_digit, hexadecimal, digit_value, numeral, literal, literal_of}
 use Rattle.ver_text.proofs.Readback.{below, bytes_same}
 
 pub hex_is : (d : ℕ) → d < 16 → digit_value (hex_digit d) ≡ d

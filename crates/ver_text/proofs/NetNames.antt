@@ -1,23 +1,17 @@
 -- The name of a net is read as its number.
-use Rattle.std.proofs.Common.{ℕ, zero, suc, ◌≡◌, ◌≢◌, ◌+◌, ◌-◌, ◌*◌, ◌/◌, ◌%◌, ◌^◌, ◌<◌, ◌≤◌, List, [], ◌∷◌, ◌++◌, length, Bool, true, false, ◌&&◌, cond, Option, Some, None, refl, ap, sym, subst, ◌∙◌, arith}
-use Rattle.std.specs.Prelude.{codes, decimal, nat_lt, nat_le, ◌==◌, slice_get}
+use Rattle.std.proofs.Common.{ℕ, zero, suc, ◌≡◌, ◌≢◌, ◌+◌, ◌^◌, ◌<◌, ◌≤◌, List, [], ◌∷◌, length, Bool, true, false, cond, Option, Some, None, refl, ap, sym, subst, ◌∙◌, arith}
+use Rattle.std.specs.Prelude.{nat_lt, nat_le, slice_get}
 use Rattle.std.specs.List.{AllByRecursion}
 use Rattle.std.specs.Str.{bytes_eq}
-use Rattle.std.proofs.lemmas.Bool.{false≢true}
-use Rattle.std.proofs.lemmas.Bool.Decides.{nat_tests, not_from_Decides}
+use Rattle.std.proofs.lemmas.Bool.Decides.{nat_tests}
 use Rattle.std.proofs.lemmas.Slice.Eq.{bytes_eq-Decides}
-use Rattle.std.proofs.lemmas.Fmt.{decimal_by_steps}
 use Rattle.net_cells.specs.declared.netlist.Port.{Port}
-use Rattle.net_cells.specs.declared.netlist.Reg.{Reg}
-use Rattle.net_cells.specs.declared.netlist.Cell.{Cell}
-use Rattle.net_cells.specs.declared.netlist.OutPort.{OutPort}
 use Rattle.ver_text.specs.declared.progress.Progress.{Progress}
-use Rattle.ver_text.specs.Numerals.{number_of, numbered}
-use Rattle.ver_text.specs.Due.{place_from, if_within, cell_named, register_named, net_named}
-use Rattle.ver_text.specs.Spelling.{name_in, made_name, register_name, cell_name}
-use Rattle.ver_text.proofs.Readback.{number_read, bytes_same}
-use Rattle.ver_text.proofs.Exact.{number_is, lt_to, le_to, join_true}
-use Rattle.ver_text.proofs.Groups.{Frame, known}
+use Rattle.ver_text.specs.Numerals.{numbered}
+use Rattle.ver_text.specs.Due.{place_from, if_within, net_named}
+use Rattle.ver_text.specs.Spelling.{name_in, register_name, cell_name}
+use Rattle.ver_text.proofs.Readback.{number_read}
+use Rattle.ver_text.proofs.Exact.{lt_to, le_to, join_true}
 
 -- no port's name is a later one's
 abbrev pub Distinct : List Port → Type 0

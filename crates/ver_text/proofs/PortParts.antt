@@ -1,8 +1,7 @@
 -- The heading and the ports are read one after another.
-use Rattle.std.proofs.Common.{ℕ, zero, suc, ◌≡◌, ◌≢◌, ◌+◌, ◌-◌, ◌^◌, ◌<◌, ◌≤◌, List, [], ◌∷◌, ◌++◌, length, map, Bool, true, false, not, ◌&&◌, cond, Option, Some, None, refl, ap, sym, subst, ◌∙◌, append_assoc, length-append, arith}
-use Rattle.std.specs.Prelude.{codes, decimal, nat_lt, nat_le, nat_eq, ◌==◌, slice_index}
-use Rattle.std.specs.List.{AllByRecursion, list_all, starts_with}
-use Rattle.std.specs.Str.{bytes_eq}
+use Rattle.std.proofs.Common.{ℕ, ◌≡◌, ◌≢◌, ◌+◌, ◌-◌, List, [], ◌∷◌, ◌++◌, length, map, true, Some, refl, ap, sym, subst, ◌∙◌, append_assoc, length-append, arith}
+use Rattle.std.specs.Prelude.{codes, decimal}
+use Rattle.std.specs.List.{AllByRecursion}
 use Rattle.std.proofs.lemmas.List.{append-nil}
 use Rattle.dip_sets.specs.Names.{is_name}
 use Rattle.net_cells.specs.declared.netlist.Port.{Port}
@@ -15,9 +14,8 @@ use Rattle.ver_text.specs.Due.{due_by, is_named, is_new, at_first}
 use Rattle.ver_text.specs.Spelling as spec
 use Rattle.ver_text.specs.Spelling.{Sign, signs, part_signs}
 use Rattle.ver_text.proofs.Signs.{Seen, said}
-use Rattle.ver_text.proofs.Segments.{Boundary, due_then, seen_start, heading_said, input_said, output_said}
+use Rattle.ver_text.proofs.Segments.{Boundary, seen_start, heading_said, input_said, output_said}
 use Rattle.ver_text.proofs.Readback.{width_read}
-use Rattle.ver_text.proofs.Exact.{join_true}
 use Rattle.ver_text.proofs.Groups.{said_same}
 use Rattle.ver_text.proofs.NetNames.{differ}
 use Rattle.ver_text.proofs.ValueParts.{declared_as}
@@ -69,11 +67,11 @@ right_part : (P : List ℕ → Type 0) (xs ys : List (List ℕ)) → AllByRecurs
 right_part P [] ys h = h
 right_part P (x ∷ xs) ys h = right_part P xs ys h.1
 
-widths_more : (ports more : List Port) → widths_of (ports ++ more) ≡ widths_of ports ++ widths_of more
+pub widths_more : (ports more : List Port) → widths_of (ports ++ more) ≡ widths_of ports ++ widths_of more
 widths_more [] more = refl
 widths_more (p ∷ ps) more = ap (λ ws. p.width ∷ ws) (widths_more ps more)
 
-names_more : (ports more : List Port) → names_of (ports ++ more) ≡ names_of ports ++ names_of more
+pub names_more : (ports more : List Port) → names_of (ports ++ more) ≡ names_of ports ++ names_of more
 names_more [] more = refl
 names_more (p ∷ ps) more = ap (λ ns. p.name ∷ ns) (names_more ps more)
 

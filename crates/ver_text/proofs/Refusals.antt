@@ -69,13 +69,13 @@ finished s AfterName d = rw (begins s AfterName Semicolon d refl, run) refl
 finished s Ended d = rw (ended s.first d.next) refl
 finished s Inner d = absurd (not_inner s.first d.next)
 
-front_of_drop : (xs ks : List Kind) (k : Kind) (n : ℕ) → drop n xs ≡ k ∷ ks → slice_get xs n ≡ Some k
+pub front_of_drop : (xs ks : List Kind) (k : Kind) (n : ℕ) → drop n xs ≡ k ∷ ks → slice_get xs n ≡ Some k
 front_of_drop [] ks k zero e = cc
 front_of_drop [] ks k (suc n) e = cc
 front_of_drop (x ∷ xs) ks k zero e = cc
 front_of_drop (x ∷ xs) ks k (suc n) e = front_of_drop xs ks k n e
 
-rest_of_drop : (xs ks : List Kind) (k : Kind) (n : ℕ) → drop n xs ≡ k ∷ ks → drop (suc n) xs ≡ ks
+pub rest_of_drop : (xs ks : List Kind) (k : Kind) (n : ℕ) → drop n xs ≡ k ∷ ks → drop (suc n) xs ≡ ks
 rest_of_drop [] ks k zero e = cc
 rest_of_drop [] ks k (suc n) e = cc
 rest_of_drop (x ∷ xs) ks k zero e = cc

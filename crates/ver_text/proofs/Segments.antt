@@ -1,11 +1,10 @@
 -- What the tokens of each part say.
-use Rattle.std.proofs.Common.{ℕ, ◌≡◌, ◌-◌, List, [], ◌∷◌, ◌++◌, Bool, true, false, cond, Option, Some, None, refl, ap, sym, ◌∙◌}
+use Rattle.std.proofs.Common.{ℕ, ◌≡◌, ◌-◌, List, [], ◌∷◌, ◌++◌, Bool, true, false, cond, Option, Some, None, refl, ap, ◌∙◌}
 use Rattle.std.specs.Prelude.{codes, decimal, slice_get}
 use Rattle.ver_text.specs.declared.kind.Kind.{Kind}
 use Rattle.ver_text.specs.declared.kind.Kind.TheVariants as kind
 use Rattle.ver_text.specs.declared.kind.Rule.{Rule}
 use Rattle.ver_text.specs.declared.kind.Rule.TheVariants as rule
-use Rattle.ver_text.specs.declared.grammar.State.{State}
 use Rattle.ver_text.specs.declared.progress.Progress.{Progress}
 use Rattle.ver_text.specs.Kinds.{is_word, same_rule}
 use Rattle.ver_text.specs.Grammar.{behind, next_rule, rule_of, step, start}
@@ -13,7 +12,7 @@ use Rattle.ver_text.specs.Parts.{ends, opens, begins_parts}
 use Rattle.ver_text.specs.Due.{due_by}
 use Rattle.ver_text.specs.Spelling as spec
 use Rattle.ver_text.specs.Spelling.{Sign, sign, signs, tight, apart, last, tight_name, apart_name, tight_number, tight_word}
-use Rattle.ver_text.proofs.Signs.{Seen, said, seen_next, due_seen}
+use Rattle.ver_text.proofs.Signs.{Seen, said, due_seen}
 use Rattle.ver_text.proofs.Refusals.{begins}
 
 -- a construct is complete, and this rule is next

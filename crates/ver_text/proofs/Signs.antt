@@ -1,5 +1,5 @@
 -- A text is read by what its tokens say.
-use Rattle.std.proofs.Common.{ℕ, ◌≡◌, List, [], ◌∷◌, map, Bool, true, false, cond, Option, Some, None, Result, Ok, Err, refl, ap, sym, ◌∙◌, subst}
+use Rattle.std.proofs.Common.{ℕ, ◌≡◌, List, [], ◌∷◌, map, Bool, true, false, cond, Option, Some, None, Ok, refl, ap, sym, ◌∙◌, subst}
 use Rattle.ver_text.specs.declared.kind.Kind.{Kind}
 use Rattle.ver_text.specs.declared.token.Token.{Token}
 use Rattle.ver_text.specs.declared.grammar.State.{State}
@@ -9,10 +9,10 @@ use Rattle.ver_text.specs.declared.progress.Progress.{Progress}
 use Rattle.ver_text.specs.Kinds.{is_word}
 use Rattle.ver_text.specs.Grammar.{step, is_whole}
 use Rattle.ver_text.specs.Tokens.{text_of, refused}
-use Rattle.ver_text.specs.Parts.{ends, opens, moved, moved_to, with_form, with_word, with_head, parts}
+use Rattle.ver_text.specs.Parts.{ends, opens, moved, moved_to, with_form, parts}
 use Rattle.ver_text.specs.Due.{due, due_by}
 use Rattle.ver_text.specs.Reading.{judged}
-use Rattle.ver_text.specs.Spelling.{Sign, sign}
+use Rattle.ver_text.specs.Spelling.{Sign}
 use Rattle.ver_text.specs.TextLaw.{sign_of}
 
 -- how far a text was read, without places
@@ -74,11 +74,11 @@ seen_by text s next p t true false = refl
 seen_by text s next p t false true = refl
 seen_by text s next p t false false = refl
 
-seen_moved : (text : List ℕ) (c : Cursor) (t : Token) (next : State)
+pub seen_moved : (text : List ℕ) (c : Cursor) (t : Token) (next : State)
     → seen_of text (moved_to c t (Some next)) ≡ seen_next (seen_of text c) next t.kind (sign_of text t).word
 seen_moved text c t next = seen_by text c.state next c.part t (opens c.state) (is_word t.kind)
 
-due_is : (text : List ℕ) (p : Progress) (c : Cursor) → due text p c.part ≡ due_seen p (seen_of text c)
+pub due_is : (text : List ℕ) (p : Progress) (c : Cursor) → due text p c.part ≡ due_seen p (seen_of text c)
 unfolding due
 due_is text p c = refl
 
@@ -112,7 +112,7 @@ behind_part text c d t ts end p r q m s b u h = record {
   parts_say = rw (m, parts) (rw b (rw (u, judged) h.parts_say));
 }
 
-moved_is : (c : Cursor) (t : Token) (next : State) → step c.state t.kind ≡ Some next → moved c t ≡ moved_to c t (Some next)
+pub moved_is : (c : Cursor) (t : Token) (next : State) → step c.state t.kind ≡ Some next → moved c t ≡ moved_to c t (Some next)
 unfolding moved
 moved_is c t next e = ap (moved_to c t) e
 

@@ -1,5 +1,5 @@
 -- A netlist's tokens are read as the netlist.
-use Rattle.std.proofs.Common.{ℕ, zero, suc, ◌≡◌, ◌≢◌, ◌+◌, ◌-◌, ◌^◌, ◌<◌, ◌≤◌, List, [], ◌∷◌, ◌++◌, length, drop, map, Bool, true, false, not, ◌&&◌, cond, Option, Some, None, refl, ap, sym, subst, ◌∙◌, append_assoc, length-append, arith}
+use Rattle.std.proofs.Common.{ℕ, ◌≡◌, ◌+◌, ◌^◌, ◌<◌, List, [], ◌∷◌, ◌++◌, length, drop, map, true, Some, refl, ap, sym, subst, ◌∙◌, append_assoc, length-append, arith}
 use Rattle.std.specs.Prelude.{codes, slice_index}
 use Rattle.std.specs.List.{AllByRecursion}
 use Rattle.std.proofs.lemmas.List.{append-nil, drop_at, length-map}
@@ -9,7 +9,7 @@ use Rattle.net_cells.specs.declared.netlist.Reg.{Reg}
 use Rattle.net_cells.specs.declared.netlist.Cell.{Cell}
 use Rattle.net_cells.specs.declared.netlist.OutPort.{OutPort}
 use Rattle.net_cells.specs.declared.netlist.Netlist.{Netlist}
-use Rattle.net_cells.specs.Rules.{IsCell, IsWidth, HasWidth, widths, sources}
+use Rattle.net_cells.specs.Rules.{IsCell, IsWidth, HasWidth, widths}
 use Rattle.ver_text.specs.declared.kind.Kind.TheVariants as kind
 use Rattle.ver_text.specs.declared.kind.Rule.TheVariants as rule
 use Rattle.ver_text.specs.declared.progress.Progress.{Progress}
@@ -20,7 +20,7 @@ use Rattle.ver_text.proofs.Signs.{Seen, said}
 use Rattle.ver_text.proofs.Segments.{Boundary, seen_start, close_said}
 use Rattle.ver_text.proofs.Groups.{Frame, known, said_same, regs_said, wires_said}
 use Rattle.ver_text.proofs.NetNames.{Distinct, Unnumbered}
-use Rattle.ver_text.proofs.CellParts.{Ready, with_cells, cells_said}
+use Rattle.ver_text.proofs.CellParts.{with_cells, cells_said}
 use Rattle.ver_text.proofs.ValueParts.{declared_as, with_outputs, outputs_said, with_updates, updates_said, end_said, Full}
 use Rattle.ver_text.proofs.PortParts.{headed, names_of, widths_of, Apart, IsPort, start_said, inputs_said, ports_said}
 
@@ -47,7 +47,7 @@ pub record Good (name : List ℕ) (is : List Port) (rs : List Reg) (cs : List Ce
   pub ops : AllByRecursion (λ (c : Cell). IsCell (widths (made name is rs cs os)) c.width c.op) cs
   pub shown : AllByRecursion (λ (o : OutPort). o.net < length (widths (made name is rs cs os))) os
 
-regroup : (H R I O C G W V S U E : List Sign)
+pub regroup : (H R I O C G W V S U E : List Sign)
     → ((H ++ []) ++ ((R ++ I) ++ (O ++ ((C ++ []) ++ [])))) ++ (G ++ (W ++ [])) ++ (V ++ (S ++ (U ++ ((E ++ []) ++ []))))
     ≡ H ++ (R ++ (I ++ (O ++ (C ++ (G ++ (W ++ (V ++ (S ++ (U ++ E)))))))))
 regroup H R I O C G W V S U E = simp (append_assoc, append-nil)

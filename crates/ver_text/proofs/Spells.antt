@@ -1,18 +1,17 @@
 -- The netlist that a text spells is what is read of it.
-use Rattle.std.proofs.Common.{ℕ, zero, ◌≡◌, List, [], ◌∷◌, length, map, Option, Some, None, Result, Ok, refl, ap, sym, subst, ◌∙◌}
+use Rattle.std.proofs.Common.{ℕ, ◌≡◌, List, [], ◌∷◌, length, map, Some, Result, Ok, refl, ap, sym, subst, ◌∙◌}
 use Rattle.std.specs.Prelude.{slice_get}
 use Rattle.net_cells.specs.declared.netlist.Port.{Port}
 use Rattle.net_cells.specs.declared.netlist.Reg.{Reg}
 use Rattle.net_cells.specs.declared.netlist.Cell.{Cell}
 use Rattle.net_cells.specs.declared.netlist.OutPort.{OutPort}
 use Rattle.net_cells.specs.declared.netlist.Netlist.{Netlist}
-use Rattle.net_cells.specs.Rules.{IsWellFormed}
 use Rattle.ver_text.specs.Tokens.{tokens_from}
 use Rattle.ver_text.specs.Parts.{at_start}
 use Rattle.ver_text.specs.Due.{at_first}
-use Rattle.ver_text.specs.Reading.{read_text, parts_say, unless_refused, netlist_of}
+use Rattle.ver_text.specs.Reading.{read_text, parts_say}
 use Rattle.ver_text.specs.TextLaw.{Spells, SpelledIsRead, SpellsOne, sign_of}
-use Rattle.ver_text.proofs.Signs.{said, seen_of, reads, Reads}
+use Rattle.ver_text.proofs.Signs.{said, reads, Reads}
 use Rattle.ver_text.proofs.Segments.{seen_start}
 use Rattle.ver_text.proofs.Spelled.{reset_port, made, final, spelled_said}
 use Rattle.ver_text.proofs.Formed.{good}

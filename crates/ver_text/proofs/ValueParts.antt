@@ -1,8 +1,7 @@
 -- The nets of outputs, the next nets of registers and the end are read one after another.
-use Rattle.std.proofs.Common.{ℕ, zero, suc, ◌≡◌, ◌≢◌, ◌+◌, ◌-◌, ◌^◌, ◌<◌, ◌≤◌, List, [], ◌∷◌, ◌++◌, length, drop, map, Bool, true, false, not, ◌&&◌, cond, Option, Some, None, refl, ap, sym, subst, ◌∙◌, append_assoc, length-append, arith}
-use Rattle.std.specs.Prelude.{codes, decimal, nat_lt, nat_le, ◌==◌, slice_get, slice_index}
+use Rattle.std.proofs.Common.{ℕ, zero, suc, ◌≡◌, ◌+◌, ◌<◌, List, [], ◌∷◌, ◌++◌, length, drop, map, Bool, true, false, cond, Some, refl, ap, sym, ◌∙◌, append_assoc, length-append, arith}
+use Rattle.std.specs.Prelude.{codes, nat_lt, ◌==◌, slice_get, slice_index}
 use Rattle.std.specs.List.{AllByRecursion}
-use Rattle.std.specs.Str.{bytes_eq}
 use Rattle.std.proofs.lemmas.List.{append-nil}
 use Rattle.std.proofs.lemmas.Bool.Decides.{nat_tests}
 use Rattle.net_cells.specs.declared.netlist.Port.{Port}
@@ -10,13 +9,10 @@ use Rattle.net_cells.specs.declared.netlist.Reg.{Reg}
 use Rattle.net_cells.specs.declared.netlist.OutPort.{OutPort}
 use Rattle.net_cells.specs.declared.netlist.Netlist.{Netlist}
 use Rattle.net_cells.specs.Rules.{HasWidth}
-use Rattle.ver_text.specs.declared.kind.Kind.{Kind}
 use Rattle.ver_text.specs.declared.kind.Kind.TheVariants as kind
 use Rattle.ver_text.specs.declared.kind.Rule.TheVariants as rule
 use Rattle.ver_text.specs.declared.progress.Progress.{Progress}
-use Rattle.ver_text.specs.Grammar.{step}
 use Rattle.ver_text.specs.Parts.{opens}
-use Rattle.ver_text.specs.Numerals.{is_numbered}
 use Rattle.ver_text.specs.Due.{due_by, due_assignment, due_shown, due_update, due_end, net_named, is_none, has_values}
 use Rattle.ver_text.specs.Spelling as spec
 use Rattle.ver_text.specs.Spelling.{Sign, signs, part_signs, net_name, register_name, assignment, update, tight_name, last}
@@ -97,12 +93,12 @@ update_taken p fourth next r f l w v n =
 abbrev pub with_updates : Progress → List Reg → Progress
 with_updates p rs = record p { regs = p.regs ++ rs; next_register = p.next_register + length rs }
 
-no_updates : (p : Progress) → with_updates p [] ≡ p
+pub no_updates : (p : Progress) → with_updates p [] ≡ p
 no_updates p =
     let n : p.next_register + 0 ≡ p.next_register = omega arith in
     ap (λ (xs : List Reg). record p { regs = xs; next_register = p.next_register + 0 }) (append-nil p.regs) ∙ ap (λ m. record p { next_register = m }) n
 
-more_updates : (p : Progress) (r : Reg) (rs : List Reg) → with_updates p (r ∷ rs) ≡ with_updates (updated p r) rs
+pub more_updates : (p : Progress) (r : Reg) (rs : List Reg) → with_updates p (r ∷ rs) ≡ with_updates (updated p r) rs
 more_updates p r rs =
     let n : p.next_register + suc (length rs) ≡ p.next_register + 1 + length rs = omega arith in
     ap (λ (xs : List Reg). record p { regs = xs; next_register = p.next_register + suc (length rs) }) (sym (append_assoc p.regs (r ∷ []) rs))

@@ -1,20 +1,19 @@
 -- Printed names, numbers and literals are found in the text.
-use Rattle.std.proofs.Common.{ℕ, zero, suc, ◌≡◌, ◌≢◌, ◌+◌, ◌-◌, ◌*◌, ◌/◌, ◌%◌, ◌^◌, ◌<◌, ◌≤◌, List, [], ◌∷◌, ◌++◌, length, take, drop, map, Bool, true, false, not, ◌&&◌, ◌||◌, cond, Option, Some, None, refl, ap, sym, subst, ◌∙◌, append_assoc, length-append, arith}
-use Rattle.std.specs.Prelude.{codes, decimal, nat_lt, nat_le, ◌==◌, slice_index}
+use Rattle.std.proofs.Common.{ℕ, zero, suc, ◌≡◌, ◌+◌, ◌-◌, ◌*◌, ◌/◌, ◌%◌, ◌^◌, ◌<◌, ◌≤◌, List, [], ◌∷◌, ◌++◌, length, drop, Bool, true, false, ◌&&◌, cond, refl, ap, sym, subst, ◌∙◌, append_assoc, length-append, arith}
+use Rattle.std.specs.Prelude.{codes, decimal, nat_lt, nat_le, ◌==◌}
 use Rattle.std.specs.List.{prefix_len, list_all}
 use Rattle.std.proofs.lemmas.List.{drop_at, take_at}
 use Rattle.std.proofs.lemmas.List.Folds.{prefix_len-append}
 use Rattle.std.proofs.lemmas.Bool.Decides.{nat_tests}
 use Rattle.std.proofs.lemmas.Fmt.{decimal_by_steps, decimal_nonempty}
 use Rattle.dip_sets.specs.Names.{is_name, is_letter, is_name_byte, begins_with_letter}
-use Rattle.ver_text.specs.declared.kind.Kind.{Kind}
 use Rattle.ver_text.specs.declared.kind.Kind.TheVariants as kind
 use Rattle.ver_text.specs.declared.scan.Lexeme.{Lexeme}
-use Rattle.ver_text.specs.Lexemes.{first_lexeme, lexeme_by, word_kind, word_of, word_lexeme, is_digit, is_hex, literal_tail, numeral_of, numeral_lexeme}
+use Rattle.ver_text.specs.Lexemes.{first_lexeme, lexeme_by, word_kind, word_of, is_digit, is_hex, literal_tail, numeral_of, numeral_lexeme}
 use Rattle.ver_text.specs.Numerals.{literal, hexadecimal, hex_digit}
-use Rattle.ver_text.specs.Spelling.{Piece, tight_word, tight_number, apart_name, tight_name, register_name, cell_name}
+use Rattle.ver_text.specs.Spelling.{tight_word, tight_number, apart_name, tight_name, register_name, cell_name}
 use Rattle.ver_text.proofs.Exact.{both_true}
-use Rattle.ver_text.proofs.Formed.{Low, low_first}
+use Rattle.ver_text.proofs.Formed.{low_first}
 use Rattle.ver_text.proofs.Literals.{decimal_digits}
 use Rattle.ver_text.proofs.Lexing.{Scanned, skip_none, skip_space}
 

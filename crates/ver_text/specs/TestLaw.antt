@@ -2,7 +2,7 @@
 use Rattle.std.specs.Prelude.{◌≡◌, ◌↔◌, ℕ, ◌-◌, ◌^◌, ◌<◌, List, true, decimal, codes, Some}
 use Rattle.net_cells.specs.declared.netlist.CellOp.{CellOp}
 use Rattle.net_cells.specs.Rules.{IsCell, IsWidth}
-use Rattle.ver_text.specs.Numerals.{number_of, literal, literal_of, hexadecimal}
+use Rattle.ver_text.specs.Numerals.{number_of, literal, literal_of}
 use Rattle.ver_text.specs.Due.{width_of}
 use Rattle.ver_text.specs.Fits.{is_cell}
 

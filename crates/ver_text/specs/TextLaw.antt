@@ -1,5 +1,5 @@
 -- What it means that a text spells a netlist.
-use Rattle.std.specs.Prelude.{◌≡◌, ℕ, List, map, IsTrue, Result, Ok}
+use Rattle.std.specs.Prelude.{◌≡◌, ◌<◌, ◌^◌, ℕ, List, length, map, IsTrue, Ok}
 use Rattle.std.specs.List.{AllByRecursion}
 use Rattle.dip_sets.specs.Names.{is_name}
 use Rattle.net_cells.specs.declared.netlist.Port.{Port}
@@ -30,6 +30,11 @@ pub record Spells (text : List ℕ) (n : Netlist) : Type 0 where
 -- The netlist that a text spells is what is read of it.
 abbrev pub SpelledIsRead : Type 0
 SpelledIsRead = (text : List ℕ) (n : Netlist) → Spells text n → read_text text ≡ Ok n
+
+-- A text that is read as a netlist spells it, which is well formed then. A text of memory is shorter than 2 ^ 64 bytes; a longer
+-- one could name more nets than a netlist may have.
+abbrev pub ReadSpells : Type 0
+ReadSpells = (text : List ℕ) (n : Netlist) → length text < 2 ^ 64 → read_text text ≡ Ok n → Spells text n
 
 -- A text spells at most one netlist.
 abbrev pub SpellsOne : Type 0

@@ -1,6 +1,6 @@
 ghost use Rattle.ver_text.specs.SyntaxLaw.{RefusalIsFirst};
 ghost use Rattle.ver_text.specs.TestLaw.{TestsAreExact};
-ghost use Rattle.ver_text.specs.TextLaw.{PrintedIsRead, PrintedSpells, SpelledIsRead, SpellsOne};
+ghost use Rattle.ver_text.specs.TextLaw.{PrintedIsRead, PrintedSpells, ReadSpells, SpelledIsRead, SpellsOne};
 
 /// The place at which the syntax refuses tokens is that of the first after which no continuation has the
 /// syntax, or
@@ -15,9 +15,11 @@ pub fn tests_law()
     ensures { TestsAreExact }
 {}
 
-/// The netlist that a text spells is what is read of it, and no other is spelled by it.
+/// The netlist that a text spells is what is read of it, what is read of a text is a netlist that it spells,
+/// and no other is spelled by it.
 pub fn spelling_law()
     ensures read { SpelledIsRead }
+    ensures spelled { ReadSpells }
     ensures only { SpellsOne }
 {}
 

@@ -3,6 +3,7 @@ ghost use Rattle.ver_text.specs.Parts.{at_start, parts};
 ghost use Rattle.ver_text.specs.Due.{at_first};
 ghost use Rattle.ver_text.specs.Tokens.{tokens_from};
 ghost use Rattle.ver_text.specs.Reading as spec;
+ghost use Rattle.ver_text.specs.TextLaw.{Spells};
 
 use crate::fault::TextFault;
 use crate::part::{Cursor, Part};
@@ -97,10 +98,11 @@ fn netlist_of(progress: Progress) -> Result<Netlist, TextFault>
     }
 }
 
-/// The netlist that a text spells, or the place at which it is refused.
-#[tactic(auto, unfolding(crate::specs::Reading::read_text, crate::specs::Reading::parts_say))]
+/// The netlist that a text spells, which is well formed, or the place at which it is refused.
+#[tactic(auto, unfolding(crate::specs::Reading::read_text, crate::specs::Reading::parts_say), using(crate::proofs::Sound::spelled_parts))]
 pub fn read(alloc: Global, text: &[u8]) -> Result<Netlist, TextFault>
-    ensures { spec.Gives (spec.read_text text.now) result }
+    ensures said { spec.Gives (spec.read_text text.now) result }
+    ensures spelled { IfOk result (λ netlist. Spells text.now netlist) }
 {
     if let Some(place) = refused_place(text) {
         return Err(TextFault::NotText { place });
