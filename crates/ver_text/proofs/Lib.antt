@@ -14,6 +14,7 @@ pub mod Literals
 pub mod Names
 pub mod NetNames
 pub mod Numerals
+pub mod PortNames
 pub mod PortParts
 pub mod Printed
 pub mod Readback

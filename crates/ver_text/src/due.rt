@@ -1,4 +1,4 @@
-ghost use Rattle.std.specs.Prelude.{◌≡◌, ◌+◌, Some, None, cond, codes, IfOk, List, length, slice_get};
+ghost use Rattle.std.specs.Prelude.{◌≡◌, ◌+◌, Some, None, cond, codes, IsTrue, IfOk, List, length, slice_get};
 ghost use Rattle.net_cells.specs.declared.netlist.Port.{Port};
 ghost use Rattle.ver_text.specs.Numerals.{number_below};
 ghost use Rattle.ver_text.specs.Due as spec;
@@ -7,7 +7,7 @@ use crate::digits::{is_numbered, literal_of, number_below};
 use crate::fits::{is_cell, width_at};
 use crate::kind::Kind;
 use crate::part::Part;
-use crate::progress::{Progress, is_new, name_of, width_of};
+use crate::progress::{Progress, name_of, width_of};
 use crate::token::bytes_of;
 use dip_lists::{Items, Memory};
 use net_cells::{Cell, CellOp, OutPort, Port, Reg, WIDTH_LIMIT};
@@ -64,8 +64,8 @@ impl Progress {
         ensures { result ≡ spec.is_port_name self.now name.now }
     {
         is_named(b"p_", name)
-            && is_new(self.inputs.as_slice(), name)
-            && is_new(self.declared.as_slice(), name)
+            && self.inputs.is_new(name)
+            && self.declared.is_new(name)
     }
 
     fn take_name(&mut self, alloc: Global, name: &[u8]) -> Result<bool, Memory>
@@ -82,6 +82,7 @@ impl Progress {
     }
 
     fn add_input(&mut self, alloc: Global, name: &[u8], width: u32) -> Result<bool, Memory>
+        requires { IsTrue (spec.is_new self.old.inputs name.now) }
         ensures { IfOk result (λ is. cond is (Some self.new) None ≡ spec.with_input self.old name.now width) }
     {
         let Some(name) = name_of(alloc, name)? else {
@@ -106,6 +107,7 @@ impl Progress {
     }
 
     fn take_reset(&mut self, alloc: Global, name: &[u8], width: u32) -> Result<bool, Memory>
+        requires { IsTrue (spec.is_none self.old.inputs) }
         ensures { IfOk result (λ is. cond is (Some self.new) None ≡ spec.due_reset self.old name.now width) }
     {
         if name != b"reset".as_slice() || width != 1 {
@@ -117,7 +119,7 @@ impl Progress {
     fn take_other(&mut self, alloc: Global, name: &[u8], width: u32) -> Result<bool, Memory>
         ensures { IfOk result (λ is. cond is (Some self.new) None ≡ spec.due_other self.old name.now width) }
     {
-        if !is_none(&self.declared) || !self.is_port_name(name) {
+        if !self.declared.is_empty() || !self.is_port_name(name) {
             return Ok(false);
         }
         self.add_input(alloc, name, width)
@@ -132,13 +134,14 @@ impl Progress {
         if !self.clocked {
             return Ok(self.take_clock(name, width));
         }
-        if is_none(&self.inputs) {
+        if self.inputs.is_empty() {
             return self.take_reset(alloc, name, width);
         }
         self.take_other(alloc, name, width)
     }
 
     fn add_output(&mut self, alloc: Global, name: &[u8], width: u32) -> Result<bool, Memory>
+        requires { IsTrue (spec.is_new self.old.declared name.now) }
         ensures { IfOk result (λ is. cond is (Some self.new) None
             ≡ spec.with_output self.old name.now width) }
     {
@@ -160,7 +163,7 @@ impl Progress {
         let Some(width) = width else {
             return Ok(false);
         };
-        if is_none(&self.inputs) || !self.is_port_name(name) {
+        if self.inputs.is_empty() || !self.is_port_name(name) {
             return Ok(false);
         }
         self.add_output(alloc, name, width)
@@ -169,7 +172,7 @@ impl Progress {
     fn takes_registers(&self) -> bool
         ensures { result ≡ spec.takes_registers self.now }
     {
-        !is_none(&self.inputs)
+        !self.inputs.is_empty()
             && self.widths.len() as u64 == self.sources
             && is_none(&self.outputs)
             && is_none(&self.regs)
@@ -194,7 +197,7 @@ impl Progress {
     fn takes_wires(&self) -> bool
         ensures { result ≡ spec.takes_wires self.now }
     {
-        !is_none(&self.inputs)
+        !self.inputs.is_empty()
             && is_none(&self.cells)
             && is_none(&self.outputs)
             && is_none(&self.regs)
@@ -417,7 +420,7 @@ impl Progress {
     fn is_end(&self) -> bool
         ensures { cond result (Some self.now) None ≡ spec.due_end self.now }
     {
-        !is_none(&self.inputs) && self.has_values() && self.next_register == self.sources
+        !self.inputs.is_empty() && self.has_values() && self.next_register == self.sources
     }
 
     #[tactic(auto, unfolding(crate::specs::Due::due_by))]

@@ -9,6 +9,7 @@ mod fits;
 mod grammar;
 mod kind;
 mod laws;
+mod named;
 mod part;
 mod printer;
 mod progress;

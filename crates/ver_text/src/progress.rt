@@ -6,22 +6,23 @@ ghost use Rattle.ver_text.specs.Numerals.{numbered};
 ghost use Rattle.ver_text.specs.Due as spec;
 
 use crate::digits::{number_below, numbered};
+use crate::named::NamedPorts;
 use dip_lists::{Items, Memory};
 use dip_sets::Name;
-use net_cells::{CellList, OutPorts, Port, Ports, Regs, WIDTH_LIMIT};
+use net_cells::{CellList, OutPorts, Regs, WIDTH_LIMIT};
 use std::alloc::Global;
 
 /// What the parts of a text said so far.
-#[derive(Debug, Drop)]
+#[derive(Drop)]
 pub struct Progress {
     /// Whether the clock was read.
     pub clocked: bool,
     /// The module's name.
     pub name: Option<Name>,
     /// The inputs.
-    pub inputs: Ports,
+    pub inputs: NamedPorts,
     /// The outputs, with their widths.
-    pub declared: Ports,
+    pub declared: NamedPorts,
     /// The widths of all nets: of inputs, registers and cells.
     pub widths: Items<u32>,
     /// How many inputs and registers there are.
@@ -47,25 +48,6 @@ pub fn name_of(alloc: Global, bytes: &[u8]) -> Result<Option<Name>, Memory>
         return Ok(None);
     };
     Name::new(alloc, text)
-}
-
-/// The input with a name.
-fn place_of(name: &[u8], ports: &[Port]) -> Option<u64>
-    ensures { result ≡ spec.place_from 0 name.now ports.now }
-{
-    for (at, port) in ports.iter().enumerate() {
-        if port.name.bytes() == name {
-            return Some(at as u64);
-        }
-    }
-    None
-}
-
-/// Whether no port has a name.
-pub fn is_new(ports: &[Port], name: &[u8]) -> bool
-    ensures { result ≡ spec.is_new ports.now name.now }
-{
-    ports.iter().all(|port| port.name.bytes() != name)
 }
 
 fn if_within(first: u64, end: u64, number: u64) -> Option<u64>
@@ -95,8 +77,8 @@ impl Progress {
         Progress {
             clocked: false,
             name: None,
-            inputs: Items::new(alloc),
-            declared: Items::new(alloc),
+            inputs: NamedPorts::new(alloc),
+            declared: NamedPorts::new(alloc),
             sources: 0,
             next_register: 0,
             next_cell: 0,
@@ -112,7 +94,7 @@ impl Progress {
     {
         match numbered(b'w', name) {
             Some(number) => if_within(self.sources, self.widths.len() as u64, number),
-            None => place_of(name, self.inputs.as_slice()),
+            None => self.inputs.place_of(name),
         }
     }
 

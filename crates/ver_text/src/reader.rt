@@ -89,7 +89,7 @@ fn netlist_of(progress: Progress) -> Result<Netlist, TextFault>
     match name {
         Some(name) => Ok(Netlist {
             name,
-            inputs,
+            inputs: inputs.into_ports(),
             regs,
             cells,
             outputs,
