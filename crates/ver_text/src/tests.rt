@@ -125,7 +125,8 @@ fn changes_of_a_counter(rt: HostRuntime) -> Result<(), Fail> {
     Ok(())
 }
 
-/// Where the counter's keywords, literals and `<=` start, which are others when they are cut, and their lengths.
+/// Where the counter's keywords, literals and `<=` start, which are other tokens when they are cut, and their
+/// lengths.
 const UNCUT: [(usize, usize); 20] = [
     (0, 6),
     (11, 5),
