@@ -31,8 +31,8 @@ pub fn engine(alloc: Global, cells: u64, count: u64) -> Result<Option<u64>, Engi
     Ok(Some(engine.state()))
 }
 
-/// Prints the text of a made netlist of so many cells, so many times: the bytes of all texts; `None` where the
-/// netlist isn't well formed.
+/// Prints the text of a made netlist of so many cells, so many times: the bytes of all texts; `None` where
+/// the netlist isn't well formed.
 pub fn printed(alloc: Global, cells: u64, times: u64) -> Result<Option<u64>, Memory> {
     let netlist = made::netlist(alloc, cells)?;
     if !well_formed(&netlist) {
@@ -46,8 +46,8 @@ pub fn printed(alloc: Global, cells: u64, times: u64) -> Result<Option<u64>, Mem
     Ok(Some(bytes))
 }
 
-/// Reads the text of a made netlist of so many cells, so many times: the cells of all that is read; `None` where
-/// the netlist isn't well formed.
+/// Reads the text of a made netlist of so many cells, so many times: the cells of all that is read; `None`
+/// where the netlist isn't well formed.
 pub fn read_again(alloc: Global, cells: u64, times: u64) -> Result<Option<u64>, TextFault> {
     let netlist = made::netlist(alloc, cells)?;
     if !well_formed(&netlist) {

@@ -22,11 +22,12 @@ use Rattle.ver_text.proofs.Signs.{Seen, said}
 use Rattle.ver_text.proofs.Segments.{Boundary, due_then, first_said, close_said, seen_start}
 use Rattle.ver_text.proofs.Exact.{both_true, eq_of, range_is}
 use Rattle.ver_text.proofs.PortParts.{headed, names_of, widths_of, names_more, widths_more, Apart, IsPort}
+use Rattle.ver_text.proofs.Spelled.{reset_port}
 use Rattle.ver_text.proofs.Told.{Bare}
 use Rattle.ver_text.proofs.Constructs.{front, tail, fill, construct}
 use Rattle.ver_text.proofs.Heard.{then_of, Item, register, wire, value, update, ending, item_due, heard, plain, named, numbered}
 use Rattle.ver_text.proofs.Taken.{held, guarded, reg_taken, wire_taken, value_taken, update_taken}
-use Rattle.ver_text.proofs.Items.{AnyWhere}
+use Rattle.ver_text.proofs.Items.{AnyWhere, some_there}
 
 -- ---- what stands between parts
 
@@ -171,7 +172,7 @@ apart_last (x ∷ xs) y a h = (further xs x y a.0 (λ e. h.0 (sym e)), apart_las
     further [] x y h n = (n, tt)
     further (z ∷ zs) x y h n = (h.0, further zs x y h.1 n)
 
-both_lists : (P : List ℕ → Type 0) (xs ys : List (List ℕ)) → AllByRecursion P xs → AllByRecursion P ys → AllByRecursion P (xs ++ ys)
+pub both_lists : {A : Type 0} (P : A → Type 0) (xs ys : List A) → AllByRecursion P xs → AllByRecursion P ys → AllByRecursion P (xs ++ ys)
 both_lists P [] ys a b = b
 both_lists P (x ∷ xs) ys a b = (a.0, both_lists P xs ys a.1 b)
 
@@ -337,10 +338,6 @@ output_by name i is outs high low word after (Some width) w e =
       same = k.same;
     }
 
-joined_ports : (ss front signs first rest tail : List Sign) → ss ≡ front ++ rest → rest ≡ signs ++ first → first ≡ tail → ss ≡ (front ++ signs) ++ tail
-joined_ports ss front signs first rest tail a b c =
-    a ∙ (ap (λ xs. front ++ xs) b ∙ (sym (append_assoc front signs first) ∙ ap (λ xs. (front ++ signs) ++ xs) c))
-
 input_more : (name : List ℕ) (i : Port) (is outs : List Port) (port : Port) (q : Progress) (ss rest : List Sign) → IsPort port → is_none outs ≡ true
     → ss ≡ (plain kind.Comma ∷ port_signs kind.Input (decimal (port.width - 1)) (codes "0") port.name) ++ rest
     → PortsRead name i (is ++ port ∷ []) outs q rest → PortsRead name i is outs q ss
@@ -367,11 +364,7 @@ input_more name i is outs port q ss rest h n s r =
 output_by_none : (inputs : List Port) (name : List ℕ) (i : Port) (is outs : List Port) (port : Port) (q : Progress) (ss rest : List Sign) (r : PortsRead name i is (outs ++ port ∷ []) q rest)
     → r.inputs ≡ inputs → AnyWhere inputs (is_none (outs ++ port ∷ []))
     → ss ≡ (plain kind.Comma ∷ port_signs kind.Output (decimal (port.width - 1)) (codes "0") port.name) ++ rest → IsPort port → PortsRead name i is outs q ss
-output_by_none (x ∷ xs) name i is outs port q ss rest r e a s h = absurd (false≢true (sym (some_port outs port) ∙ a))
-  where
-    some_port : (xs : List Port) (x : Port) → is_none (xs ++ x ∷ []) ≡ false
-    some_port [] x = refl
-    some_port (y ∷ ys) x = refl
+output_by_none (x ∷ xs) name i is outs port q ss rest r e a s h = absurd (false≢true (sym (some_there outs port) ∙ a))
 output_by_none [] name i is outs port q ss rest r e a s h =
     let o : (outs ++ port ∷ []) ++ r.outputs ≡ outs ++ port ∷ r.outputs = append_assoc outs (port ∷ []) r.outputs in
     let piece : List Sign = plain kind.Comma ∷ port_signs kind.Output (decimal (port.width - 1)) (codes "0") port.name in
@@ -443,9 +436,6 @@ ports (suc fuel) name i q ss is outs a l b x d e =
     (λ ts o k. closed name i is outs q ts x o) l
 
 -- ---- the heading, the clock and `reset`
-
-abbrev pub reset_port : Port
-reset_port = record { name = codes "reset"; width = 1 }
 
 abbrev pub head_signs : List ℕ → List Sign
 head_signs name =

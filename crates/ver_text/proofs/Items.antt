@@ -343,7 +343,7 @@ not_equal a b h t = let e : a ≡ b = eq_of a b t in absurd (omega arith)
 not_below : (a b : ℕ) → a ≡ b → Never (nat_lt a b)
 not_below a b e t = let h : a < b = lt_of a b t in absurd (omega arith)
 
-some_there : {A : Type 0} (xs : List A) (x : A) → is_none (xs ++ x ∷ []) ≡ false
+pub some_there : {A : Type 0} (xs : List A) (x : A) → is_none (xs ++ x ∷ []) ≡ false
 some_there [] x = refl
 some_there (y ∷ ys) x = refl
 

@@ -34,12 +34,12 @@ use Rattle.ver_text.proofs.Exact.{both_true, le_of}
 use Rattle.ver_text.proofs.CellParts.{with_cells}
 use Rattle.ver_text.proofs.ValueParts.{declared_as, with_outputs, with_updates}
 use Rattle.ver_text.proofs.PortParts.{headed, names_of, widths_of, Apart, IsPort}
-use Rattle.ver_text.proofs.Spelled.{made, regroup}
+use Rattle.ver_text.proofs.Spelled.{made, regroup, reset_port}
 use Rattle.ver_text.proofs.Told.{Bare, told, all_bare}
 use Rattle.ver_text.proofs.Heard.{plain, assigned_signs}
 use Rattle.ver_text.proofs.Taken.{called, expressed}
 use Rattle.ver_text.proofs.Items.{reg_list, wire_list, cell_list, out_list, update_list, with_regs, with_wires, Registering, items}
-use Rattle.ver_text.proofs.Heads.{reset_port, head_signs, reset_signs, close_signs, in_list, out_ports, HeadRead, head, PortsRead, ports}
+use Rattle.ver_text.proofs.Heads.{head_signs, reset_signs, close_signs, both_lists, in_list, out_ports, HeadRead, head, PortsRead, ports}
 
 -- ---- all that was read
 
@@ -272,10 +272,6 @@ widths_have : (ps : List Port) → AllByRecursion IsPort ps → AllByRecursion I
 widths_have [] h = tt
 widths_have (p ∷ ps) h = (h.0.wide, widths_have ps h.1)
 
-both_have : (P : ℕ → Type 0) (xs ys : List ℕ) → AllByRecursion P xs → AllByRecursion P ys → AllByRecursion P (xs ++ ys)
-both_have P [] ys a b = b
-both_have P (x ∷ xs) ys a b = (a.0, both_have P xs ys a.1 b)
-
 -- ---- there are fewer nets than bytes
 
 found_few : (b : Bool) (t : Token) (ts : List Token) (n : ℕ) → length ts ≤ n → length (cond b ts (t ∷ ts)) ≤ suc n
@@ -363,7 +359,7 @@ netlist_by q ss g text l t =
     subst (λ xs. Apart (names_of (ins_of g.is) ++ xs)) (ap names_of g.declared ∙ names_declared w g.os) g.apart in
     let one : IsWidth 1 = (omega arith, omega arith) in
     let sized : AllByRecursion IsWidth w =
-    both_have IsWidth (widths_of (ins_of g.is) ++ g.gs) g.vs (both_have IsWidth (widths_of (ins_of g.is)) g.gs (one, widths_have g.is g.ins) g.wide_regs) g.wide_wires in
+    both_lists IsWidth (widths_of (ins_of g.is) ++ g.gs) g.vs (both_lists IsWidth (widths_of (ins_of g.is)) g.gs (one, widths_have g.is g.ins) g.wide_regs) g.wide_wires in
     let few : length w ≤ length ss = nets_few q ss g in
     let less : length w < 2 ^ 64 = omega arith in
     record {

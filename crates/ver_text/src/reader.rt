@@ -99,7 +99,7 @@ fn netlist_of(progress: Progress) -> Result<Netlist, TextFault>
 }
 
 /// The netlist that a text spells, which is well formed, or the place at which it is refused.
-#[tactic(auto, unfolding(crate::specs::Reading::read_text, crate::specs::Reading::parts_say), using(crate::proofs::Sound::spelled_parts))]
+#[tactic(auto, unfolding(crate::specs::Reading::read_text, crate::specs::Reading::parts_say))]
 pub fn read(alloc: Global, text: &[u8]) -> Result<Netlist, TextFault>
     ensures said { spec.Gives (spec.read_text text.now) result }
     ensures spelled { IfOk result (λ netlist. Spells text.now netlist) }

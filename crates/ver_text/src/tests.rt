@@ -1,5 +1,4 @@
 use crate::{TextFault, print, print_law, read, spelling_law, syntax_law, tests_law};
-use net_cells::well_formed;
 use std::alloc::Global;
 use std::test::Fail;
 
@@ -77,7 +76,7 @@ fn changed(
 
 #[test]
 fn changes_of_a_counter(rt: HostRuntime) -> Result<(), Fail> {
-    let tried: [(usize, usize, &'static str, Option<usize>); 27] = [
+    let tried: [(usize, usize, &'static str, Option<usize>); 29] = [
         (172, 7, "r1 + w2 + w2", Some(180)),
         (154, 4, "4'h01", Some(142)),
         (97, 14, "wire [4:0] w3;", Some(160)),
@@ -85,6 +84,8 @@ fn changes_of_a_counter(rt: HostRuntime) -> Result<(), Fail> {
         (154, 4, "1", Some(154)),
         (154, 4, "4'd1", Some(154)),
         (154, 4, "4'", Some(154)),
+        (154, 4, "4'h", Some(154)),
+        (154, 4, "'h1", Some(154)),
         (154, 4, "04'h1", Some(142)),
         (154, 4, "3'h1", Some(142)),
         (154, 4, "4'hA", Some(154)),
@@ -124,36 +125,69 @@ fn changes_of_a_counter(rt: HostRuntime) -> Result<(), Fail> {
     Ok(())
 }
 
+/// Where the counter's keywords, literals and `<=` start, which are other tokens when they are cut, and their
+/// lengths.
+const UNCUT: [(usize, usize); 20] = [
+    (0, 6),
+    (11, 5),
+    (30, 5),
+    (49, 6),
+    (68, 3),
+    (82, 4),
+    (97, 4),
+    (112, 4),
+    (127, 4),
+    (142, 6),
+    (154, 4),
+    (160, 6),
+    (181, 6),
+    (193, 4),
+    (199, 6),
+    (228, 6),
+    (245, 6),
+    (254, 7),
+    (272, 2),
+    (279, 9),
+];
+
+/// The place at which so many bytes of the counter are refused: where a token is cut, or at their end.
+fn place_of_cut(end: usize) -> usize {
+    for (start, length) in UNCUT {
+        if start < end && end < start.saturating_add(length) {
+            return start;
+        }
+    }
+    end
+}
+
 #[test]
-fn cut_texts(rt: HostRuntime) -> Result<(), Fail> {
-    let tried = [
-        (0, Some(0)),
-        (3, Some(0)),
-        (6, Some(6)),
-        (8, Some(8)),
-        (155, Some(154)),
-        (156, Some(154)),
-        (157, Some(154)),
-        (158, Some(158)),
-        (271, Some(271)),
-        (273, Some(272)),
-        (287, Some(279)),
-        (288, None),
-        (289, None),
-    ];
-    for (end, want) in tried {
+fn each_front_of_a_text(rt: HostRuntime) -> Result<(), Fail> {
+    for end in 0..290usize {
         let text = COUNTER.as_bytes().get(..end).unwrap_or(b"");
+        let want = if end < 288 {
+            Some(place_of_cut(end))
+        } else {
+            None
+        };
         assert_eq!(rt; refused(rt.alloc(), text)?, want, "at {end}");
     }
     Ok(())
 }
 
-/// Whether a text is that of a well-formed netlist, and is printed again as it stands.
+#[test]
+fn what_a_text_says(rt: HostRuntime) -> Result<(), Fail> {
+    let netlist = read(rt.alloc(), COUNTER.as_bytes())?;
+    assert_eq!(rt; netlist.name.bytes(), b"m_t".as_slice());
+    assert_eq!(rt; netlist.inputs.len(), 1);
+    assert_eq!(rt; netlist.outputs.len(), 1);
+    assert_eq!(rt; netlist.regs.len(), 1);
+    assert_eq!(rt; netlist.cells.len(), 4);
+    Ok(())
+}
+
+/// Whether a text is printed again as it stands.
 fn is_printed_again(alloc: Global, text: &str) -> Result<bool, Fail> {
     let netlist = read(alloc, text.as_bytes())?;
-    if !well_formed(&netlist) {
-        return Ok(false);
-    }
     let again = print(alloc, &netlist)?;
     Ok(again.as_slice() == text.as_bytes())
 }
@@ -169,10 +203,20 @@ fn printed_texts(rt: HostRuntime) -> Result<(), Fail> {
 fn each_byte_between_tokens_and_in_a_comment(rt: HostRuntime) -> Result<(), Fail> {
     let mut text = Vec::new(rt.alloc());
     for byte in 0..=255u8 {
-        changed(COUNTER.as_bytes(), 289, 0, &[byte], &mut text)?;
         let is_gap = byte == b' ' || byte == b'\t' || byte == b'\n' || byte == b'\r';
-        let want = if is_gap { None } else { Some(289) };
-        assert_eq!(rt; refused(rt.alloc(), text.as_slice())?, want, "byte {byte}");
+        for place in [68, 289] {
+            changed(COUNTER.as_bytes(), place, 0, &[byte, b' '], &mut text)?;
+            let want = if is_gap { None } else { Some(place) };
+            assert_eq!(rt; refused(rt.alloc(), text.as_slice())?, want, "byte {byte}");
+        }
+        changed(
+            COUNTER.as_bytes(),
+            68,
+            0,
+            &[b'/', b'/', byte, b'\n'],
+            &mut text,
+        )?;
+        assert_eq!(rt; refused(rt.alloc(), text.as_slice())?, None, "byte {byte}");
         changed(COUNTER.as_bytes(), 289, 0, &[b'/', b'/', byte], &mut text)?;
         assert_eq!(rt; refused(rt.alloc(), text.as_slice())?, None, "byte {byte}");
     }
