@@ -63,9 +63,7 @@ impl Progress {
     fn is_port_name(&self, name: &[u8]) -> bool
         ensures { result ≡ spec.is_port_name self.now name.now }
     {
-        is_named(b"p_", name)
-            && self.inputs.is_new(name)
-            && self.declared.is_new(name)
+        is_named(b"p_", name) && self.inputs.is_new(name) && self.declared.is_new(name)
     }
 
     fn take_name(&mut self, alloc: Global, name: &[u8]) -> Result<bool, Memory>
