@@ -1,0 +1,10 @@
+//! What crosses an edge: the widths of its wires, messages, and the beats that carry them.
+#![tactic(auto)]
+
+mod beat;
+mod bundle;
+mod message;
+
+pub use beat::{ABeat, ABeats, DBeat, DBeats, Event, History, Tag, Tags, What};
+pub use bundle::Bundle;
+pub use message::{Ack, Bytes, Flags, Request, Requests, Response, Responses};
