@@ -3,8 +3,11 @@
 
 mod beat;
 mod bundle;
+mod lanes;
 mod message;
+mod request;
 
 pub use beat::{ABeat, ABeats, DBeat, DBeats, Event, History, Tag, Tags, What};
-pub use bundle::Bundle;
+pub use bundle::{Bundle, bundle_of};
 pub use message::{Ack, Bytes, Flags, Request, Requests, Response, Responses};
+pub use request::{a_beats, beats};
