@@ -1,6 +1,7 @@
 -- The active lanes of a message, and the part of it that a beat carries.
-use Rattle.std.proofs.Common.{ℕ, zero, suc, ◌≡◌, ◌+◌, ◌*◌, ◌/◌, ◌%◌, ◌^◌, ◌-◌, ◌<◌, ◌≤◌, ◌⊎◌, inl, inr, min, max, List, [], ◌∷◌, length, take, drop, replicate, map, Bool, true, false, IsTrue, cond, nat_le, ◌==◌, ◌||◌, lit<, ap, sym, ◌∙◌, refl, arith, pow_pos}
+use Rattle.std.proofs.Common.{ℕ, zero, suc, ◌≡◌, ◌+◌, ◌*◌, ◌/◌, ◌%◌, ◌^◌, ◌-◌, ◌<◌, ◌≤◌, ◌⊎◌, inl, inr, min, max, List, [], ◌∷◌, ◌++◌, append_assoc, length, take, drop, replicate, map, Bool, true, false, IsTrue, cond, nat_le, ◌==◌, ◌||◌, lit<, ap, sym, ◌∙◌, refl, arith, pow_pos}
 use Rattle.std.specs.Int.{from_bool}
+use Rattle.std.specs.List.{range_with_len}
 use Rattle.std.proofs.Math.Nat.{pow-le-pow_right, mul-le-mul_left, mul-le-mul_right, mod-mod_of_dvd, dvd-mul_right, mul-div_cancel_left}
 use Rattle.std.proofs.lemmas.Bool.{or_cases, eqb-true, cases_lt, le-leb, lt-leb, cond-true, cond-false}
 use Rattle.std.proofs.lemmas.Nat.{pow-add, pow_below, div-add-mod', mod_below, div_below, row_fits}
@@ -178,3 +179,14 @@ mask_without_flags width beat first count mask request is h none c m =
     m ∙ ap (λ (n : ℕ). on_lanes 2 first (replicate n 1)) c
     ∙ all_marked width request.size beat first (request_within request.op width request.size beat is h)
     ∙ ap (λ (flags : List Bool). on_bits first (part width beat flags)) (sym (cond-false (has_flags request.op) request.mask (replicate (bytes_of request.size) true) none))
+
+-- ---- a loop over beats
+
+pub beats_step : {A : Type 0} (f : ℕ → A) (list pushed : List A) (item : A) (beat end : ℕ) (all : List A) → beat < end → item ≡ f beat → pushed ≡ list ++ item ∷ []
+    → list ++ map f (range_with_len beat (end - beat)) ≡ all → pushed ++ map f (range_with_len (beat + 1) (end - (beat + 1))) ≡ all
+beats_step {A = A} f list pushed item beat end all h i p e =
+    let rest : List A = map f (range_with_len (beat + 1) (end - (beat + 1))) in
+    let more : end - beat ≡ suc (end - (beat + 1)) = omega arith in
+    ap (λ (xs : List A). xs ++ rest) (p ∙ ap (λ (x : A). list ++ x ∷ []) i)
+    ∙ append_assoc list (f beat ∷ []) rest
+    ∙ sym (ap (λ (left : ℕ). list ++ map f (range_with_len beat left)) more) ∙ e

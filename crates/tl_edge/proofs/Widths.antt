@@ -60,11 +60,13 @@ bits_are_least n = record {
   where
     rise : (k : ℕ) → 2 ^ digits_of k ≤ 2 ^ bits_for k
     rise k = pow-le-pow_right (lit< tt) (omega arith)
+
     within : (k fewer : ℕ) → k < 2 ^ fewer → digits_of k ≤ fewer
     within k fewer h = elim (none_or_some k) [
       | inl none ↦ omega (arith, ap digits_of none, halvings_zero 0)
       | inr some ↦ let below : digits_of k < suc fewer = exponents-lt (digits_of k) (suc fewer) (omega (arith, h, halvings_least k k (omega arith) some, pow-suc 2 fewer)) in omega arith
     ]
+
     least : (k fewer : ℕ) → 1 ≤ fewer → k < 2 ^ fewer → bits_for k ≤ fewer
     least k fewer h1 h2 = omega (arith, h1, within k fewer h2)
 

@@ -52,6 +52,10 @@ on_bits first flags = on_lanes 2 first (map from_bool flags)
 abbrev pub part : {A : Type 0} → ℕ → ℕ → List A → List A
 part width beat items = take width (drop (beat * width) items)
 
+-- the data of one beat of a message of a size at an address
+abbrev pub data_on_lanes : ℕ → ℕ → ℕ → ℕ → List ℕ → ℕ
+data_on_lanes width size address beat bytes = on_bytes (first_lane width size address) (part width beat bytes)
+
 -- ---- requests
 
 -- the flags of a request's bytes: its own, or all set
@@ -66,7 +70,7 @@ a_beat width request beat = record {
   source = request.source;
   address = request.address;
   mask = on_bits (first_lane width request.size request.address) (part width beat (flags_of request));
-  payload = on_bytes (first_lane width request.size request.address) (part width beat request.payload);
+  payload = data_on_lanes width request.size request.address beat request.payload;
 }
 
 -- the beats of a request on a bus of some bytes
@@ -81,7 +85,7 @@ d_beat width address response beat = record {
   size = response.size;
   source = response.source;
   denied = response.denied;
-  payload = cond response.denied 0 (on_bytes (first_lane width response.size address) (part width beat response.payload));
+  payload = cond response.denied 0 (data_on_lanes width response.size address beat response.payload);
 }
 
 -- the beats of a response on a bus of some bytes

@@ -21,7 +21,11 @@ impl Lanes {
         ensures count { result.count ≡ spec.lane_count width size }
     {
         let bytes = 1 << size;
-        let first = if width <= bytes { 0 } else { (address % u64::from(width)) as u32 };
+        let first = if width <= bytes {
+            0
+        } else {
+            (address % u64::from(width)) as u32
+        };
         let count = width.min(bytes);
         Lanes { first, count }
     }

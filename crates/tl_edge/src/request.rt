@@ -30,7 +30,11 @@ pub fn beats(op: Op, size: u32, width: u32) -> u32
     requires width { IsTrue (is_width width) }
     ensures { result ≡ spec.request_beats op size width }
 {
-    if has_data(op) { data_beats(size, width) } else { 1 }
+    if has_data(op) {
+        data_beats(size, width)
+    } else {
+        1
+    }
 }
 
 // The lanes that one beat of a request marks.
