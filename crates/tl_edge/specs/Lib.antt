@@ -1,3 +1,6 @@
 pub mod Beats
 pub mod Bundles
+pub mod Legal
 pub mod Messages
+pub mod Plans
+pub mod SoundPlans
