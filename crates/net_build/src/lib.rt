@@ -12,4 +12,6 @@ pub use builder::Builder;
 pub use types::{Item, Kind, Made, Wire, Wires};
 
 #[cfg(test)]
+mod queue;
+#[cfg(test)]
 mod tests;

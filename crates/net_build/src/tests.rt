@@ -91,7 +91,7 @@ fn mask(width: u32) -> u64 {
         .unwrap_or(0)
 }
 
-fn at(values: &[u64], net: u64) -> u64 {
+pub fn at(values: &[u64], net: u64) -> u64 {
     values.get(net as usize).copied().unwrap_or(0)
 }
 
@@ -122,7 +122,7 @@ fn value(netlist: &Netlist, cell: Cell, values: &[u64]) -> u64 {
 }
 
 /// The values of all nets, where inputs and registers have the given ones.
-fn evaluate(alloc: Global, netlist: &Netlist, given: &[u64]) -> Result<Vec<u64>, Memory> {
+pub fn evaluate(alloc: Global, netlist: &Netlist, given: &[u64]) -> Result<Vec<u64>, Memory> {
     let mut values = Vec::from_slice(alloc, given)?;
     for cell in netlist.cells.as_slice() {
         let value = value(netlist, *cell, &values);

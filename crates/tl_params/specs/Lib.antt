@@ -1,4 +1,5 @@
 pub mod Arguments
 pub mod Carried
 pub mod Operations
+pub mod OwnerLaw
 pub mod Owners

@@ -1,4 +1,5 @@
 ghost use Rattle.std.specs.Prelude.{◌≡◌, ◌↔◌, IsTrue, IfOk};
+ghost use Rattle.tl_params.specs.OwnerLaw.{OwnersByMembers};
 ghost use Rattle.tl_params.specs.Owners as spec;
 
 use crate::Ops;
@@ -167,3 +168,9 @@ pub fn owner(port: &UpPort, address: u64) -> Option<usize>
     }
     None
 }
+
+/// The owner of an address is the slave one of whose sets has it: an answered place is the first at which a
+/// slave does, and where none is answered no slave does.
+pub fn owner_law()
+    ensures { OwnersByMembers }
+{}
