@@ -28,7 +28,7 @@ pub record IsOwned (slaves : List Slave) (request : Request) : Type 0 where
 
 -- what a legal request has whoever sends it
 pub record IsAnswerable (slaves : List Slave) (request : Request) : Type 0 where
-  pub request : IsRequest request
+  pub whole : IsRequest request
   pub param : IsTrue (has_param request.op request.param)
   pub owned : IsOwned slaves request
 

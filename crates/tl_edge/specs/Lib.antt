@@ -1,5 +1,6 @@
 pub mod Beats
 pub mod Bundles
+pub mod ExamplePlan
 pub mod Legal
 pub mod Messages
 pub mod Plans

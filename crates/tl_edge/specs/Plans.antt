@@ -1,5 +1,5 @@
 -- How the leaves, edges and ports of a plan hang together.
-use Rattle.std.specs.Prelude.{ℕ, ◌≡◌, List, [], ◌∷◌, ◌++◌, map, Contains, Some, slice_get, unwrap_or}
+use Rattle.std.specs.Prelude.{ℕ, ◌≡◌, ◌+◌, ◌==◌, cond, List, [], ◌∷◌, ◌++◌, map, Contains, Some, slice_get, unwrap_or}
 use Rattle.std.specs.List.{flat_map}
 use Rattle.tl_params.specs.declared.ports.Slave.{Slave}
 use Rattle.tl_edge.specs.declared.bundle.Bundle.{Bundle}
@@ -46,11 +46,10 @@ given_edges plan = flat_map (λ (leaf : Leaf). leaf.outs) plan.leaves ++ port_ed
 abbrev pub taken_edges : Plan → List ℕ
 taken_edges plan = flat_map (λ (leaf : Leaf). leaf.ins) plan.leaves ++ port_edges plan.sinks
 
--- a number stands in a list at one place, and at no other
-pub record StandsOnce (numbers : List ℕ) (number : ℕ) : Type 0 where
-  pub place : ℕ
-  pub here : slice_get numbers place ≡ Some number
-  pub only : (other : ℕ) → slice_get numbers other ≡ Some number → other ≡ place
+-- how often a number stands in a list
+abbrev pub times : ℕ → List ℕ → ℕ
+times number [] = 0
+times number (other ∷ others) = cond (number == other) 1 0 + times number others
 
 -- ---- ways from leaf to leaf
 

@@ -19,7 +19,7 @@ use Rattle.tl_edge.specs.declared.plan.PlanEdge.{PlanEdge}
 use Rattle.tl_edge.specs.declared.plan.PlanPort.{PlanPort}
 use Rattle.tl_edge.specs.declared.plan.Plan.{Plan}
 use Rattle.tl_edge.specs.Bundles.{bundle}
-use Rattle.tl_edge.specs.Plans.{edge_at, ins_of, outs_of, joined_slaves, beat_of, given_edges, taken_edges, StandsOnce, Reaches}
+use Rattle.tl_edge.specs.Plans.{edge_at, ins_of, outs_of, joined_slaves, beat_of, given_edges, taken_edges, times, Reaches}
 
 -- ---- an edge by itself
 
@@ -37,9 +37,9 @@ pub record IsSmall (slave : Slave) : Type 0 where
   pub arithmetic : slave.supports.arithmetic.max ≤ 8
   pub logical : slave.supports.logical.max ≤ 8
 
--- what each address set and each range of sizes keeps
-pub record IsKept (slave : Slave) : Type 0 where
-  pub sizes : (op : Op) → IsTrue (is_size_range (sizes_of slave.supports op))
+-- what each range of sizes keeps
+abbrev pub HasRanges : Slave → Type 0
+HasRanges slave = (op : Op) → IsTrue (is_size_range (sizes_of slave.supports op))
 
 pub record IsSoundEdge (edge : PlanEdge) : Type 0 where
   pub some_ids : 1 ≤ edge.ids
@@ -48,7 +48,7 @@ pub record IsSoundEdge (edge : PlanEdge) : Type 0 where
   pub bundle : edge.bundle ≡ bundle edge.slaves edge.ids (beat_of edge)
   pub addressed : All (λ (slave : Slave). 1 ≤ length slave.addresses) edge.slaves
   pub sets : HaveSets edge.slaves
-  pub sizes : All IsKept edge.slaves
+  pub sizes : All HasRanges edge.slaves
   pub apart : AllPairs Disjoint (sets_of edge.slaves)
   pub aligned : All IsAligned edge.slaves
   pub small : All IsSmall edge.slaves
@@ -111,20 +111,20 @@ MovesIds template args ins outs = All (LeavesIds template args (ids_of ins)) (id
 -- ---- the ports
 
 -- one slave alone answers on the edge of a sink port: the one with its node and port
-pub record IsItsSlave (slaves : List Slave) (port : PlanPort) : Type 0 where
+pub record IsItsSlave (slaves : List Slave) (at : PlanPort) : Type 0 where
   pub slave : Slave
   pub alone : slaves ≡ slave ∷ []
-  pub node : slave.node ≡ port.node
-  pub port : slave.port ≡ port.port
+  pub node : slave.node ≡ at.node
+  pub port : slave.port ≡ at.port
 
 -- two ports are told apart by node and port, and by name and port
 pub record AreApart (a b : PlanPort) : Type 0 where
   pub nodes : a.node ≡ b.node → a.port ≡ b.port → ⊥
   pub names : a.name ≡ b.name → a.port ≡ b.port → ⊥
 
-pub record IsShort (port : PlanPort) : Type 0 where
-  pub name : length port.name ≤ 32
-  pub port : port.port < 64
+pub record IsShort (at : PlanPort) : Type 0 where
+  pub name : length at.name ≤ 32
+  pub port : at.port < 64
 
 -- ---- a whole plan
 
@@ -132,8 +132,8 @@ pub record IsSound (plan : Plan) : Type 0 where
   pub few_edges : length plan.edges ≤ 1024
   pub given : All (λ edge. edge < length plan.edges) (given_edges plan)
   pub taken : All (λ edge. edge < length plan.edges) (taken_edges plan)
-  pub given_once : (edge : ℕ) → edge < length plan.edges → StandsOnce (given_edges plan) edge
-  pub taken_once : (edge : ℕ) → edge < length plan.edges → StandsOnce (taken_edges plan) edge
+  pub given_once : (edge : ℕ) → edge < length plan.edges → times edge (given_edges plan) ≡ 1
+  pub taken_once : (edge : ℕ) → edge < length plan.edges → times edge (taken_edges plan) ≡ 1
   pub shaped : All (λ (leaf : Leaf). HasShape leaf.template leaf.ins leaf.outs) plan.leaves
   pub acyclic : (leaf : ℕ) → Reaches plan leaf leaf → ⊥
   pub edges : All IsSoundEdge plan.edges

@@ -1,3 +1,5 @@
+ghost use Rattle.tl_edge.specs.ExamplePlan.{SomePlanIsSound};
+
 use crate::Bundle;
 use dip_lists::Items;
 use dip_sets::Name;
@@ -65,3 +67,8 @@ pub struct Plan {
     /// Where requests leave.
     pub sinks: PlanPorts,
 }
+
+/// A plan with a leaf of each template is sound, so that what is promised of sound plans is promised of some.
+pub fn sound_plan_law()
+    ensures { SomePlanIsSound }
+{}
