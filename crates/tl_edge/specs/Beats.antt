@@ -1,0 +1,93 @@
+-- The beats of a message: what channel A or D carries in each cycle of it (SiFive TileLink Specification 1.8, chapter 4).
+use Rattle.std.specs.Prelude.{ℕ, ◌+◌, ◌*◌, ◌/◌, ◌%◌, ◌^◌, List, [], ◌∷◌, map, take, drop, replicate, Bool, true, false, cond, nat_le, min, max}
+use Rattle.std.specs.Int.{from_bool}
+use Rattle.std.specs.List.{range_with_len}
+use Rattle.tl_params.specs.declared.ops.Op.{Op}
+use Rattle.tl_edge.specs.declared.message.Ack.{Ack}
+use Rattle.tl_edge.specs.declared.message.Request.{Request}
+use Rattle.tl_edge.specs.declared.message.Response.{Response}
+use Rattle.tl_edge.specs.declared.beat.ABeat.{ABeat}
+use Rattle.tl_edge.specs.declared.beat.DBeat.{DBeat}
+use Rattle.tl_edge.specs.Messages.{has_data, has_flags, brings_data, bytes_of}
+
+-- ---- how many: a bus of some bytes carries so many in each beat, and a message without data takes one
+
+abbrev pub data_beats : ℕ → ℕ → ℕ
+data_beats size width = max 1 (bytes_of size / width)
+
+abbrev pub request_beats : Op → ℕ → ℕ → ℕ
+request_beats op size width = cond (has_data op) (data_beats size width) 1
+
+abbrev pub response_beats : Ack → ℕ → ℕ → ℕ
+response_beats op size width = cond (brings_data op) (data_beats size width) 1
+
+-- ---- the active lanes: all of the bus for a message as large as the bus or larger; else as many as it has bytes, from the lane of its
+-- address on
+
+abbrev pub first_lane : ℕ → ℕ → ℕ → ℕ
+first_lane width size address = cond (nat_le width (bytes_of size)) 0 (address % width)
+
+abbrev pub lane_count : ℕ → ℕ → ℕ
+lane_count width size = min width (bytes_of size)
+
+-- ---- numbers on lanes
+
+-- the number with these digits in a base, the lowest first
+abbrev pub number : ℕ → List ℕ → ℕ
+number base [] = 0
+number base (digit ∷ digits) = digit + base * number base digits
+
+-- the number whose lanes from a first one on are these; the lanes before and behind them are 0
+abbrev pub on_lanes : ℕ → ℕ → List ℕ → ℕ
+on_lanes base first lanes = base ^ first * number base lanes
+
+-- a lane of data is eight bits, one of the mask is one bit
+abbrev pub on_bytes : ℕ → List ℕ → ℕ
+on_bytes first bytes = on_lanes 256 first bytes
+
+abbrev pub on_bits : ℕ → List Bool → ℕ
+on_bits first flags = on_lanes 2 first (map from_bool flags)
+
+-- what one beat, counted from 0, carries of a list: so many items as the bus has lanes, from the beat's own on
+abbrev pub part : {A : Type 0} → ℕ → ℕ → List A → List A
+part width beat items = take width (drop (beat * width) items)
+
+-- the data of one beat of a message of a size at an address
+abbrev pub data_on_lanes : ℕ → ℕ → ℕ → ℕ → List ℕ → ℕ
+data_on_lanes width size address beat bytes = on_bytes (first_lane width size address) (part width beat bytes)
+
+-- ---- requests
+
+-- the flags of a request's bytes: its own, or all set
+abbrev pub flags_of : Request → List Bool
+flags_of request = cond (has_flags request.op) request.mask (replicate (bytes_of request.size) true)
+
+abbrev pub a_beat : ℕ → Request → ℕ → ABeat
+a_beat width request beat = record {
+  op = request.op;
+  param = request.param;
+  size = request.size;
+  source = request.source;
+  address = request.address;
+  mask = on_bits (first_lane width request.size request.address) (part width beat (flags_of request));
+  payload = data_on_lanes width request.size request.address beat request.payload;
+}
+
+-- the beats of a request on a bus of some bytes
+abbrev pub beats_of_request : ℕ → Request → List ABeat
+beats_of_request width request = map (a_beat width request) (range_with_len 0 (request_beats request.op request.size width))
+
+-- ---- responses, to a request at an address; a denied one carries no data
+
+abbrev pub d_beat : ℕ → ℕ → Response → ℕ → DBeat
+d_beat width address response beat = record {
+  op = response.op;
+  size = response.size;
+  source = response.source;
+  denied = response.denied;
+  payload = cond response.denied 0 (data_on_lanes width response.size address beat response.payload);
+}
+
+-- the beats of a response on a bus of some bytes
+abbrev pub beats_of_response : ℕ → ℕ → Response → List DBeat
+beats_of_response width address response = map (d_beat width address response) (range_with_len 0 (response_beats response.op response.size width))

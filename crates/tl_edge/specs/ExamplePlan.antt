@@ -1,0 +1,109 @@
+-- A sound plan with a leaf of each template: one source, whose ids a shrinker makes two, and behind a crossbar a memory on a bus of eight
+-- bytes and a device on a bus of four.
+use Rattle.std.specs.Prelude.{ℕ, List, [], ◌∷◌, ◌++◌, codes}
+use Rattle.dip_sets.specs.SizeRanges.{SizeRange, size_range, no_sizes}
+use Rattle.tl_params.specs.declared.ops.Ops.{Ops}
+use Rattle.tl_params.specs.declared.ops.Policy.TheVariants.{Lowest}
+use Rattle.tl_params.specs.declared.ops.Template.{Template}
+use Rattle.tl_params.specs.declared.ops.Template.TheVariants.{Buffer, Width, Fragmenter, Shrinker, Xbar}
+use Rattle.tl_params.specs.declared.ports.Slave.{Slave}
+use Rattle.tl_edge.specs.declared.plan.Leaf.{Leaf}
+use Rattle.tl_edge.specs.declared.plan.PlanEdge.{PlanEdge}
+use Rattle.tl_edge.specs.declared.plan.PlanPort.{PlanPort}
+use Rattle.tl_edge.specs.declared.plan.Plan.{Plan}
+use Rattle.tl_edge.specs.Bundles.{bundle}
+use Rattle.tl_edge.specs.SoundPlans.{IsSound}
+
+-- reads and writes of some sizes
+abbrev pub reads_and_writes : SizeRange → Ops
+reads_and_writes sizes =
+    record { get = sizes; put_full = sizes; put_partial = sizes; arithmetic = no_sizes; logical = no_sizes; intent = no_sizes }
+
+-- a memory of 64 KiB
+abbrev pub memory : Slave
+memory = record {
+  node = 4;
+  port = 0;
+  addresses = record { base = 0x80000000; mask = 0xffff } ∷ [];
+  supports = reads_and_writes (size_range 1 64);
+}
+
+-- a device of 4 KiB, where transfers of these sizes can be taken
+abbrev pub device : SizeRange → Slave
+device sizes = record {
+  node = 7;
+  port = 0;
+  addresses = record { base = 0x10000000; mask = 0xfff } ∷ [];
+  supports = reads_and_writes sizes;
+}
+
+abbrev pub edge : ℕ → ℕ → List Slave → PlanEdge
+edge beat ids slaves = record { bundle = bundle slaves ids beat; slaves = slaves; ids = ids }
+
+abbrev pub leaf : Template → List ℕ → List ℕ → List ℕ → Leaf
+leaf template args ins outs = record { template = template; ins = ins; outs = outs; args = args }
+
+abbrev pub port : List ℕ → ℕ → ℕ → PlanPort
+port name node number = record { edge = number; node = node; port = 0; name = name }
+
+-- ---- the edges, by their numbers from 0
+
+abbrev pub from_core : PlanEdge
+from_core = edge 8 4 (memory ∷ device (size_range 1 64) ∷ [])
+
+abbrev pub to_crossbar : PlanEdge
+to_crossbar = edge 8 2 (memory ∷ device (size_range 1 64) ∷ [])
+
+abbrev pub to_buffer : PlanEdge
+to_buffer = edge 8 2 (memory ∷ [])
+
+abbrev pub to_memory : PlanEdge
+to_memory = edge 8 2 (memory ∷ [])
+
+abbrev pub to_width : PlanEdge
+to_width = edge 8 2 (device (size_range 1 64) ∷ [])
+
+abbrev pub to_fragmenter : PlanEdge
+to_fragmenter = edge 4 2 (device (size_range 1 64) ∷ [])
+
+abbrev pub to_device : PlanEdge
+to_device = edge 4 2 (device (size_range 1 4) ∷ [])
+
+-- ---- the leaves and ports
+
+abbrev pub shrinker : Leaf
+shrinker = leaf Shrinker (2 ∷ []) (0 ∷ []) (1 ∷ [])
+
+abbrev pub crossbar : Leaf
+crossbar = leaf Xbar [] (1 ∷ []) (2 ∷ 4 ∷ [])
+
+abbrev pub buffer : Leaf
+buffer = leaf Buffer [] (2 ∷ []) (3 ∷ [])
+
+abbrev pub width_adapter : Leaf
+width_adapter = leaf Width (8 ∷ []) (4 ∷ []) (5 ∷ [])
+
+abbrev pub fragmenter : Leaf
+fragmenter = leaf Fragmenter (4 ∷ 64 ∷ []) (5 ∷ []) (6 ∷ [])
+
+abbrev pub core : PlanPort
+core = port (codes "core") 0 0
+
+abbrev pub ram : PlanPort
+ram = port (codes "ram") 4 3
+
+abbrev pub uart : PlanPort
+uart = port (codes "uart") 7 6
+
+abbrev pub example : Plan
+example = record {
+  name = codes "example";
+  policy = Lowest;
+  leaves = shrinker ∷ crossbar ∷ buffer ∷ width_adapter ∷ fragmenter ∷ [];
+  edges = from_core ∷ to_crossbar ∷ to_buffer ∷ to_memory ∷ to_width ∷ to_fragmenter ∷ to_device ∷ [];
+  sources = core ∷ [];
+  sinks = ram ∷ uart ∷ [];
+}
+
+abbrev pub SomePlanIsSound : Type 0
+SomePlanIsSound = IsSound example

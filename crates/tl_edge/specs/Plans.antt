@@ -1,0 +1,73 @@
+-- How the leaves, edges and ports of a plan hang together.
+use Rattle.std.specs.Prelude.{ℕ, ◌≡◌, ◌+◌, ◌==◌, cond, List, [], ◌∷◌, ◌++◌, map, Contains, Some, slice_get, unwrap_or}
+use Rattle.std.specs.List.{flat_map}
+use Rattle.tl_params.specs.declared.ports.Slave.{Slave}
+use Rattle.tl_edge.specs.declared.bundle.Bundle.{Bundle}
+use Rattle.tl_edge.specs.declared.plan.Leaf.{Leaf}
+use Rattle.tl_edge.specs.declared.plan.PlanEdge.{PlanEdge}
+use Rattle.tl_edge.specs.declared.plan.PlanPort.{PlanPort}
+use Rattle.tl_edge.specs.declared.plan.Plan.{Plan}
+
+-- ---- edges by their numbers
+
+abbrev pub no_bundle : Bundle
+no_bundle = record { address_bits = 0; data_bytes = 0; source_bits = 0; size_bits = 0 }
+
+abbrev pub no_edge : PlanEdge
+no_edge = record { bundle = no_bundle; slaves = []; ids = 0 }
+
+abbrev pub edge_at : Plan → ℕ → PlanEdge
+edge_at plan number = unwrap_or (slice_get plan.edges number) no_edge
+
+abbrev pub ins_of : Plan → Leaf → List PlanEdge
+ins_of plan leaf = map (edge_at plan) leaf.ins
+
+abbrev pub outs_of : Plan → Leaf → List PlanEdge
+outs_of plan leaf = map (edge_at plan) leaf.outs
+
+-- the slaves of some edges, joined in order
+abbrev pub joined_slaves : List PlanEdge → List Slave
+joined_slaves edges = flat_map (λ (edge : PlanEdge). edge.slaves) edges
+
+-- the width of an edge's bus, in bytes
+abbrev pub beat_of : PlanEdge → ℕ
+beat_of edge = edge.bundle.data_bytes
+
+-- ---- who puts requests onto edges, and who takes them
+
+abbrev pub port_edges : List PlanPort → List ℕ
+port_edges ports = map (λ (port : PlanPort). port.edge) ports
+
+-- the edges onto which leaves and source ports put requests
+abbrev pub given_edges : Plan → List ℕ
+given_edges plan = flat_map (λ (leaf : Leaf). leaf.outs) plan.leaves ++ port_edges plan.sources
+
+-- the edges from which leaves and sink ports take them
+abbrev pub taken_edges : Plan → List ℕ
+taken_edges plan = flat_map (λ (leaf : Leaf). leaf.ins) plan.leaves ++ port_edges plan.sinks
+
+-- how often a number stands in a list
+abbrev pub times : ℕ → List ℕ → ℕ
+times number [] = 0
+times number (other ∷ others) = cond (number == other) 1 0 + times number others
+
+-- ---- ways from leaf to leaf
+
+-- an edge goes from the one leaf to the other
+pub record IsJoined (plan : Plan) (leaf other : ℕ) : Type 0 where
+  pub above : Leaf
+  pub below : Leaf
+  pub edge : ℕ
+  pub from : slice_get plan.leaves leaf ≡ Some above
+  pub to : slice_get plan.leaves other ≡ Some below
+  pub out : Contains above.outs edge
+  pub taken : Contains below.ins edge
+
+-- From a leaf over others to a last one, each joined to the next.
+abbrev pub IsWay : Plan → ℕ → List ℕ → ℕ → Type 0
+IsWay plan leaf [] last = IsJoined plan leaf last
+IsWay plan leaf (next ∷ others) last = IsJoined plan leaf next × IsWay plan next others last
+
+-- A leaf reaches another along edges.
+abbrev pub Reaches : Plan → ℕ → ℕ → Type 0
+Reaches plan leaf other = (between : List ℕ) × IsWay plan leaf between other
