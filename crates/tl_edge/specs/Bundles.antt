@@ -1,6 +1,6 @@
 -- The widths of an edge's wires: the least numbers of bits that hold what crosses it.
-use Rattle.std.specs.Prelude.{ℕ, zero, suc, ◌-◌, ◌/◌, ◌^◌, ◌<◌, ◌≤◌, List, [], ◌∷◌, max, bit_or}
-use Rattle.dip_sets.specs.Sets.{Pattern}
+use Rattle.std.specs.Prelude.{ℕ, zero, suc, ◌-◌, ◌/◌, ◌^◌, ◌<◌, ◌≤◌, ◌≡◌, List, [], ◌∷◌, Contains, max, bit_or}
+use Rattle.dip_sets.specs.Sets.{Pattern, In}
 use Rattle.tl_params.specs.Operations.{largest}
 use Rattle.tl_params.specs.declared.ports.Slave.{Slave}
 use Rattle.tl_edge.specs.declared.bundle.Bundle.{Bundle}
@@ -42,6 +42,16 @@ greatest_address (slave ∷ slaves) = max (last_address slave.addresses) (greate
 abbrev pub largest_transfer : List Slave → ℕ
 largest_transfer [] = 0
 largest_transfer (slave ∷ slaves) = max (largest slave.supports) (largest_transfer slaves)
+
+-- what these numbers mean: no slave answers a greater address and one answers it, if any answers any; likewise for transfers, whose
+-- exponent is the logarithm
+pub record BitsLaw : Type 0 where
+  pub bits : (n : ℕ) → IsLeastBits n (bits_for n)
+  pub no_greater : (slaves : List Slave) (slave : Slave) (set : Pattern) (address : ℕ) → Contains slaves slave → Contains slave.addresses set → In set address → address ≤ greatest_address slaves
+  pub greatest : (slaves : List Slave) → (0 < greatest_address slaves) → (slave : Slave) × Contains slaves slave × ((set : Pattern) × Contains slave.addresses set × In set (greatest_address slaves))
+  pub no_larger : (slaves : List Slave) (slave : Slave) → Contains slaves slave → largest slave.supports ≤ largest_transfer slaves
+  pub largest_one : (slaves : List Slave) → 0 < largest_transfer slaves → (slave : Slave) × Contains slaves slave × (largest slave.supports ≡ largest_transfer slaves)
+  pub exponent : (k : ℕ) → log_of (2 ^ k) ≡ k
 
 -- the bundle of an edge with some slaves, ids from 0 to below an end, and a bus of some bytes
 abbrev pub bundle : List Slave → ℕ → ℕ → Bundle

@@ -4,12 +4,16 @@
 mod beat;
 mod bundle;
 mod lanes;
+mod laws;
 mod message;
 mod request;
 mod response;
+#[cfg(test)]
+mod tests;
 
 pub use beat::{ABeat, ABeats, DBeat, DBeats, Event, History, Tag, Tags, What};
 pub use bundle::{Bundle, bundle_of};
+pub use laws::{bits_law, heads_law, join_law, lanes_law, same_law, spelling_law};
 pub use message::{Ack, Bytes, Flags, Request, Requests, Response, Responses};
 pub use request::{a_beats, beats};
 pub use response::d_beats;
