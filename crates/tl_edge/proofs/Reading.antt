@@ -1,0 +1,1 @@
+-- Messages read back from their beats.

@@ -1,0 +1,1 @@
+-- Lists of beats that spell lists of messages.
