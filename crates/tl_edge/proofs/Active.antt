@@ -140,7 +140,7 @@ lanes_fit_word width size address first count is aligned e f =
 
 -- ---- lanes that are all set
 
-take-replicate-min : {A : Type 0} (n m : ℕ) (y : A) → take n (replicate m y) ≡ replicate (min n m) y
+pub take-replicate-min : {A : Type 0} (n m : ℕ) (y : A) → take n (replicate m y) ≡ replicate (min n m) y
 take-replicate-min n m y =
     elim (cases_lt m n) [
       | inl lt ↦ take_all n (replicate m y) (omega (arith, length-replicate m y)) ∙ ap (λ (k : ℕ). replicate k y) (omega arith)

@@ -19,7 +19,7 @@ use Rattle.tl_edge.proofs.Active.{IsBus, bus_of, lanes_fit, part-length, all_or_
 
 -- ---- one lane of a number
 
-base_pos : (base k : ℕ) → 0 < base → 0 < base ^ k
+pub base_pos : (base k : ℕ) → 0 < base → 0 < base ^ k
 base_pos base k h = omega (arith, one-le-pow k base h)
 
 -- a digit of a number
