@@ -74,7 +74,7 @@ all_parts width size xs bus e =
 
 -- ---- lists of beats
 
-flat_map-map : {A B C : Type 0} (f : A → B) (g : B → List C) (xs : List A) → flat_map g (map f xs) ≡ flat_map (λ x. g (f x)) xs
+pub flat_map-map : {A B C : Type 0} (f : A → B) (g : B → List C) (xs : List A) → flat_map g (map f xs) ≡ flat_map (λ x. g (f x)) xs
 flat_map-map f g [] = refl
 flat_map-map {C = C} f g (x ∷ xs) = ap (λ (ys : List C). g (f x) ++ ys) (flat_map-map f g xs)
 
