@@ -1,6 +1,5 @@
 -- The control fields of beats, and how many there are.
-use Rattle.std.proofs.Common.{ℕ, ◌≡◌, ◌≤◌, List, length, map, Bool, true, false, cond, refl, arith}
-use Rattle.std.specs.Prelude.{All}
+use Rattle.std.proofs.Common.{ℕ, ◌≤◌, Bool, true, false, cond, refl, arith}
 use Rattle.std.specs.List.{range_with_len}
 use Rattle.std.proofs.lemmas.List.Elements.{All-map}
 use Rattle.std.proofs.lemmas.List.FromFn.{length-map-range_with_len}

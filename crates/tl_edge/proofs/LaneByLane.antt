@@ -1,6 +1,5 @@
 -- What each lane holds.
-use Rattle.std.proofs.Common.{ℕ, zero, suc, ◌≡◌, ◌+◌, ◌*◌, ◌/◌, ◌%◌, ◌^◌, ◌-◌, ◌<◌, ◌≤◌, ◌⊎◌, inl, inr, min, List, [], ◌∷◌, length, get_or, take, drop, map, replicate, Bool, true, false, cond, IsTrue, lit<, ap, sym, ◌∙◌, refl, subst, arith, pow_pos}
-use Rattle.std.specs.Prelude.{All}
+use Rattle.std.proofs.Common.{ℕ, zero, suc, ◌≡◌, ◌+◌, ◌*◌, ◌/◌, ◌%◌, ◌^◌, ◌-◌, ◌<◌, ◌≤◌, inl, inr, List, [], ◌∷◌, length, get_or, take, drop, map, replicate, Bool, true, false, cond, IsTrue, lit<, ap, sym, ◌∙◌, refl, subst, arith}
 use Rattle.std.specs.Int.{from_bool}
 use Rattle.std.specs.List.{take-map, drop-map}
 use Rattle.std.proofs.Math.Nat.{pow-le-pow_right, one-le-pow, pow-succ', pow-zero, mul-mod_right, mul-div_cancel_left, div-div-eq-div-mul, zero-div, div-one, add-mul-mod_self_left, add-mul-div_left, mod-eq_of_lt, div-eq_of_lt}
@@ -11,8 +10,8 @@ use Rattle.std.proofs.lemmas.List.{length-map, length-take, length-replicate, ge
 use Rattle.tl_params.specs.Arguments.{is_width}
 use Rattle.tl_edge.specs.declared.message.Request.{Request}
 use Rattle.tl_edge.specs.declared.message.Response.{Response}
-use Rattle.tl_edge.specs.Messages.{bytes_of, has_flags, IsRequest, Answers, IsWholeRequest, IsWholeResponse, AreBytes}
-use Rattle.tl_edge.specs.Beats.{number, on_lanes, on_bits, part, first_lane, lane_count, flags_of, a_beat, d_beat, request_beats, response_beats, data_on_lanes}
+use Rattle.tl_edge.specs.Messages.{bytes_of, has_flags, IsRequest, IsWholeRequest, IsWholeResponse, AreBytes}
+use Rattle.tl_edge.specs.Beats.{number, on_lanes, part, first_lane, lane_count, flags_of, a_beat, data_on_lanes}
 use Rattle.tl_edge.specs.BeatLaws.{lane_of, IsActive, HasLanes, HasLanesBack, LanesLaw}
 use Rattle.tl_edge.proofs.Digits.{AreDigits, on_lanes-lt, flag_bits}
 use Rattle.tl_edge.proofs.Active.{IsBus, bus_of, lanes_fit, part-length, all_or_none}

@@ -1,5 +1,5 @@
 -- Messages read back from their beats.
-use Rattle.std.proofs.Common.{ℕ, zero, suc, ◌≡◌, ◌+◌, ◌*◌, ◌/◌, ◌%◌, ◌^◌, ◌-◌, ◌<◌, ◌≤◌, ◌==◌, inl, inr, min, List, [], ◌∷◌, ◌++◌, length, get_or, take, drop, map, replicate, Bool, true, false, cond, IsTrue, Option, Some, unwrap_or, lit<, ap, sym, ◌∙◌, refl, subst, arith}
+use Rattle.std.proofs.Common.{ℕ, zero, suc, ◌≡◌, ◌+◌, ◌*◌, ◌/◌, ◌%◌, ◌^◌, ◌-◌, ◌<◌, ◌≤◌, ◌==◌, min, List, [], ◌∷◌, ◌++◌, length, get_or, take, drop, map, replicate, Bool, true, false, cond, IsTrue, Option, Some, unwrap_or, lit<, ap, sym, ◌∙◌, refl, arith}
 use Rattle.std.specs.Int.{from_bool}
 use Rattle.std.specs.List.{range_with_len, flat_map}
 use Rattle.std.proofs.Math.Nat.{mul-div_cancel_left, add-mul-mod_self_left, add-mul-div_left, mod-eq_of_lt, div-eq_of_lt, mul-le-mul_right}
@@ -11,13 +11,13 @@ use Rattle.tl_params.specs.declared.ops.Op.TheVariants.{PutFull, PutPartial, Ari
 use Rattle.tl_edge.specs.declared.message.Request.{Request}
 use Rattle.tl_edge.specs.declared.message.Response.{Response}
 use Rattle.tl_edge.specs.Messages.{bytes_of, has_data, has_flags, brings_data, IsWholeRequest, IsWholeResponse}
-use Rattle.tl_edge.specs.Beats.{number, on_lanes, on_bits, on_bytes, part, first_lane, lane_count, data_beats, flags_of, a_beat, d_beat, request_beats, response_beats, beats_of_request, beats_of_response, data_on_lanes}
+use Rattle.tl_edge.specs.Beats.{number, on_lanes, on_bits, on_bytes, part, first_lane, lane_count, data_beats, a_beat, d_beat, request_beats, response_beats, beats_of_request, beats_of_response, data_on_lanes}
 use Rattle.tl_edge.specs.Joined.{digits, active_digits, bytes_in, flags_in, bytes_back, joined_request, joined_response, told}
 use Rattle.tl_edge.specs.BeatLaws.{JoinLaw, SameLaw}
 use Rattle.tl_edge.proofs.Digits.{AreDigits, flag_bits}
-use Rattle.tl_edge.proofs.Active.{IsBus, Compared, larger, smaller, compared, take-replicate-min, bus_of, bus_pos, part_within}
+use Rattle.tl_edge.proofs.Active.{IsBus, larger, smaller, compared, take-replicate-min, bus_of, bus_pos, part_within}
 use Rattle.tl_edge.proofs.Heads.{heads_law}
-use Rattle.tl_edge.proofs.LaneByLane.{base_pos, part_digits, map-part, digits_from_bytes}
+use Rattle.tl_edge.proofs.LaneByLane.{base_pos, part_digits, digits_from_bytes}
 
 -- ---- the digits of a number
 

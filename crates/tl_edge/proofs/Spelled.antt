@@ -1,19 +1,17 @@
 -- Lists of beats that spell lists of messages.
-use Rattle.std.proofs.Common.{ℕ, zero, suc, ◌≡◌, ◌+◌, ◌<◌, ◌≤◌, ◌⊎◌, inl, inr, List, [], ◌∷◌, ◌++◌, length, get_or, take, drop, map, Bool, IsTrue, cond, ap, sym, ◌∙◌, refl, subst, rules, arith}
-use Rattle.std.specs.Prelude.{All, ⊤}
+use Rattle.std.proofs.Common.{ℕ, zero, suc, ◌≡◌, ◌+◌, ◌<◌, ◌≤◌, inl, inr, List, [], ◌∷◌, ◌++◌, length, take, drop, map, IsTrue, ap, sym, ◌∙◌, refl, subst, arith}
+use Rattle.std.specs.Prelude.{All}
 use Rattle.std.specs.List.{flat_map, range_with_len, AllByRecursion, AllZip}
 use Rattle.std.proofs.lemmas.List.{append_assoc, append-nil, length-append, length-take, take_at, drop_at}
 use Rattle.std.proofs.lemmas.List.FromFn.{length-map-range_with_len}
 use Rattle.std.proofs.lemmas.List.Elements.{All-head, All-tail}
 use Rattle.tl_params.specs.Arguments.{is_width}
 use Rattle.tl_edge.specs.declared.message.Request.{Request}
-use Rattle.tl_edge.specs.declared.message.Response.{Response}
 use Rattle.tl_edge.specs.declared.beat.ABeat.{ABeat}
 use Rattle.tl_edge.specs.declared.beat.DBeat.{DBeat}
 use Rattle.tl_edge.specs.Messages.{IsWholeRequest, IsWholeResponse}
 use Rattle.tl_edge.specs.Beats.{a_beat, d_beat, request_beats, response_beats, beats_of_request, beats_of_response}
-use Rattle.tl_edge.specs.Joined.{told}
-use Rattle.tl_edge.specs.Spelling.{IsFront, SpellsRequests, BeginsRequest, SpellsUpTo, Exchange, IsExchange, beats_back, BeginsResponse, SpellsResponses, SpellsBackUpTo, TellsSame, SpellingLaw}
+use Rattle.tl_edge.specs.Spelling.{IsFront, BeginsRequest, SpellsUpTo, Exchange, IsExchange, beats_back, BeginsResponse, SpellsBackUpTo, TellsSame, SpellingLaw}
 use Rattle.tl_edge.proofs.Heads.{heads_law}
 use Rattle.tl_edge.proofs.Reading.{flat_map-map, same_law}
 
@@ -80,10 +78,12 @@ piece_of total beat zero h e = absurd (omega arith)
 piece_of total beat (suc count) h e = record { some = omega arith; is = e ∙ sym (length-map-range_with_len beat 0 (suc count)) }
 
 short_of : {B : Type 0} (total : B → ℕ) (beats front : List B) → IsPiece total beats → IsFront beats front → IsShort total front
-short_of {B = B} total beats front whole is = record { is = λ some.
-    let few : length front ≡ is.count = ap length is.is ∙ length-take is.count beats ∙ omega (arith, is.short) in
-    let told_too : total_of total front ≡ total_of total beats = ap (λ (xs : List B). total_of total xs) is.is ∙ total_of-take total is.count beats (omega (arith, some, ap length is.is)) in
-    omega (arith, few, told_too, whole.is, is.short) }
+short_of {B = B} total beats front whole is = record {
+  is = λ some.
+      let few : length front ≡ is.count = ap length is.is ∙ length-take is.count beats ∙ omega (arith, is.short) in
+      let told_too : total_of total front ≡ total_of total beats = ap (λ (xs : List B). total_of total xs) is.is ∙ total_of-take total is.count beats (omega (arith, some, ap length is.is)) in
+      omega (arith, few, told_too, whole.is, is.short);
+}
 
 short_nil : {B : Type 0} (total : B → ℕ) (front : List B) → front ≡ [] → IsShort total front
 short_nil total front e = record { is = λ some. absurd (omega (arith, some, ap length e)) }
@@ -179,9 +179,10 @@ same_responses width [] [] bus all all_too e = tt
 same_responses width [] (other ∷ others) bus all all_too e = nil_not_cons _ _ e
 same_responses width (one ∷ exchanges) [] bus all all_too e = nil_not_cons _ _ (sym e)
 same_responses width (one ∷ exchanges) (other ∷ others) bus all all_too e =
-    let parts = cons_parts _ _ _ _ e in
-    (tells_same width one other bus (All-head IsExchange one exchanges all) (All-head IsExchange other others all_too) parts.0,
-    same_responses width exchanges others bus (All-tail IsExchange one exchanges all) (All-tail IsExchange other others all_too) parts.1)
+    let parts = cons_parts _ _ _ _ e in (
+      tells_same width one other bus (All-head IsExchange one exchanges all) (All-head IsExchange other others all_too) parts.0,
+      same_responses width exchanges others bus (All-tail IsExchange one exchanges all) (All-tail IsExchange other others all_too) parts.1,
+    )
 
 responses_joined : (width : ℕ) (exchanges : List Exchange) → joined (map (beats_back width) exchanges) ≡ flat_map (beats_back width) exchanges
 unfolding joined

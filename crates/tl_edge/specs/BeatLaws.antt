@@ -1,5 +1,5 @@
 -- What the beats of a message say of it.
-use Rattle.std.specs.Prelude.{ℕ, ◌≡◌, ◌≤◌, ◌<◌, ◌+◌, ◌*◌, ◌/◌, ◌%◌, ◌^◌, List, All, length, slice_index, slice_index_or, Bool, true, false, IsTrue, Some}
+use Rattle.std.specs.Prelude.{ℕ, ◌≡◌, ◌≤◌, ◌<◌, ◌+◌, ◌*◌, ◌/◌, ◌%◌, ◌^◌, All, length, slice_index, slice_index_or, true, false, IsTrue, Some}
 use Rattle.std.specs.Int.{from_bool}
 use Rattle.tl_params.specs.Arguments.{is_width}
 use Rattle.tl_edge.specs.declared.message.Request.{Request}

@@ -1,5 +1,5 @@
 -- Lists of beats that spell lists of messages.
-use Rattle.std.specs.Prelude.{ℕ, ◌≡◌, ◌<◌, ◌⊎◌, List, [], ◌∷◌, ◌++◌, All, length, take, IsTrue}
+use Rattle.std.specs.Prelude.{ℕ, ◌≡◌, ◌<◌, ◌⊎◌, List, [], ◌++◌, All, length, take, IsTrue}
 use Rattle.std.specs.List.{flat_map, AllZip}
 use Rattle.tl_params.specs.Arguments.{is_width}
 use Rattle.tl_edge.specs.declared.message.Request.{Request}
