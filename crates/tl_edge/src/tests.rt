@@ -1,7 +1,8 @@
 ghost use Rattle.std.specs.Prelude.{◌≡◌, ◌≤◌, ◌%◌, ◌^◌, [], length, IfOk};
 
 use crate::{
-    ABeats, Ack, Bytes, DBeats, Flags, Request, Response, a_beats, beats, bundle_of, d_beats,
+    ABeats, Ack, Bytes, DBeats, Flags, Request, Response, a_beats, answer_of, beats, bundle_of,
+    d_beats, has_param,
 };
 use dip_lists::{Few, Items, Memory};
 use dip_sets::{AddressSet, IdRange, Sizes};
@@ -86,7 +87,7 @@ fn get_of(alloc: Global, size: u32, source: u32, address: u64) -> Request
     }
 }
 
-fn answer_of(size: u32, source: u32, denied: bool, payload: Bytes) -> Response
+fn reply_of(size: u32, source: u32, denied: bool, payload: Bytes) -> Response
     ensures { result ≡ record { op = Ack.AckData; size = size; source = source; denied = denied; payload = payload } }
 {
     Response {
@@ -118,10 +119,18 @@ fn bursts(rt: HostRuntime) -> Result<(), Fail> {
     let get = get_of(rt.alloc(), 6, 1, 0x8000_0000);
     let asked = a_beats(rt.alloc(), 8, &get)?;
     assert!(rt; carry(&asked, &get, &[(0xff, 0)]));
-    let answer = answer_of(6, 1, false, sixty_four(rt.alloc())?);
+    let answer = reply_of(6, 1, false, sixty_four(rt.alloc())?);
     let back = d_beats(rt.alloc(), 8, &get, &answer)?;
     assert!(rt; bring(&back, &answer, &RISING));
     Ok(())
+}
+
+#[test]
+fn operations(rt: HostRuntime) {
+    assert_eq!(rt; answer_of(Op::Logical), Ack::AckData);
+    assert_eq!(rt; answer_of(Op::Intent), Ack::HintAck);
+    assert!(rt; has_param(Op::Arithmetic, 4) && !has_param(Op::Logical, 4));
+    assert!(rt; has_param(Op::Intent, 1) && !has_param(Op::PutPartial, 1));
 }
 
 #[test]
@@ -135,13 +144,13 @@ fn counts(rt: HostRuntime) {
 fn high_lanes(rt: HostRuntime) -> Result<(), Fail> {
     let get = get_of(rt.alloc(), 2, 1, 0x8000_0014);
     assert!(rt; carry(&a_beats(rt.alloc(), 8, &get)?, &get, &[(0xf0, 0)]));
-    let answer = answer_of(2, 1, false, bytes_of(rt.alloc(), &[5, 6, 7, 8])?);
+    let answer = reply_of(2, 1, false, bytes_of(rt.alloc(), &[5, 6, 7, 8])?);
     let back = d_beats(rt.alloc(), 8, &get, &answer)?;
     assert!(rt; bring(&back, &answer, &[0x0807_0605_0000_0000]));
     let byte = get_of(rt.alloc(), 0, 0, 0x1007);
     assert!(rt; carry(&a_beats(rt.alloc(), 8, &byte)?, &byte, &[(0x80, 0)]));
     assert!(rt; carry(&a_beats(rt.alloc(), 4, &byte)?, &byte, &[(0x8, 0)]));
-    let seven = answer_of(0, 0, false, bytes_of(rt.alloc(), &[7])?);
+    let seven = reply_of(0, 0, false, bytes_of(rt.alloc(), &[7])?);
     assert!(rt;
         bring(
             &d_beats(rt.alloc(), 4, &byte, &seven)?,
@@ -198,7 +207,7 @@ fn denied_atomic(rt: HostRuntime) -> Result<(), Fail> {
         payload: bytes_of(rt.alloc(), &[1, 0, 0, 0])?,
     };
     assert!(rt; carry(&a_beats(rt.alloc(), 8, &sum)?, &sum, &[(0x0f, 1)]));
-    let refused = answer_of(2, 1, true, bytes_of(rt.alloc(), &[8, 9, 10, 11])?);
+    let refused = reply_of(2, 1, true, bytes_of(rt.alloc(), &[8, 9, 10, 11])?);
     assert!(rt;
         bring(
             &d_beats(rt.alloc(), 1, &sum, &refused)?,
