@@ -2,8 +2,8 @@ ghost use Rattle.tl_edge.specs.BeatLaws.{HeadsLaw, JoinLaw, LanesLaw, SameLaw};
 ghost use Rattle.tl_edge.specs.Bundles.{BitsLaw};
 ghost use Rattle.tl_edge.specs.Spelling.{SpellingLaw};
 
-/// What the widths of a bundle's wires mean: they are least numbers of bits, of the greatest address that a slave
-/// answers and of the exponent of the largest transfer that one supports.
+/// What the widths of a bundle's wires mean: they are least numbers of bits, of the greatest address that a
+/// slave answers and of the exponent of the largest transfer that one supports.
 pub fn bits_law()
     ensures { BitsLaw }
 {}

@@ -59,8 +59,8 @@ pub struct Response {
 /// Responses, in order.
 pub type Responses = Items<Response>;
 
-/// Whether a request may have this param: 0 to 4 for arithmetic, 0 to 3 for logical operations, 0 and 1 for intents, and
-/// 0 for the others.
+/// Whether a request may have this param: 0 to 4 for arithmetic, 0 to 3 for logical operations, 0 and 1 for
+/// intents, and 0 for the others.
 pub fn has_param(op: Op, param: u32) -> bool
     ensures { result ≡ spec.has_param op param }
 {

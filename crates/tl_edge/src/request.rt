@@ -10,8 +10,8 @@ use dip_lists::{Items, Memory};
 use std::alloc::Global;
 use tl_params::Op;
 
-/// How many beats a request of a size takes on a bus of `width` bytes: one without data, and else as many as its data
-/// needs.
+/// How many beats a request of a size takes on a bus of `width` bytes: one without data, and else as many as
+/// its data needs.
 pub fn beats(op: Op, size: u32, width: u32) -> u32
     requires size { size ≤ 8 }
     requires width { IsTrue (is_width width) }

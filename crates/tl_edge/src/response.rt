@@ -28,7 +28,8 @@ fn payload_of(width: u32, request: &Request, response: &Response, beat: u32) -> 
     requires request { messages.IsRequest request.now }
     requires response { messages.Answers request.now response.now }
     requires beat { beat < spec.response_beats response.now.op response.now.size width }
-    ensures { result ≡ spec.data_on_lanes width response.now.size request.now.address beat response.now.payload }
+    ensures { result ≡
+        spec.data_on_lanes width response.now.size request.now.address beat response.now.payload }
 {
     let lanes = Lanes::of(width, response.size, request.address);
     on_bytes(lanes.first, part(response.payload.as_slice(), width, beat))

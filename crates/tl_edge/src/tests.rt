@@ -74,7 +74,15 @@ const RISING: [u64; 8] = [
 fn get_of(alloc: Global, size: u32, source: u32, address: u64) -> Request
     requires small { size ≤ 8 }
     requires aligned { address % 2 ^ size ≡ 0 }
-    ensures { result ≡ record { op = Op.Get; param = 0; size = size; source = source; address = address; mask = []; payload = [] } }
+    ensures { result ≡ record {
+      op = Op.Get;
+      param = 0;
+      size = size;
+      source = source;
+      address = address;
+      mask = [];
+      payload = [];
+    } }
 {
     Request {
         op: Op::Get,
@@ -88,7 +96,13 @@ fn get_of(alloc: Global, size: u32, source: u32, address: u64) -> Request
 }
 
 fn reply_of(size: u32, source: u32, denied: bool, payload: Bytes) -> Response
-    ensures { result ≡ record { op = Ack.AckData; size = size; source = source; denied = denied; payload = payload } }
+    ensures { result ≡ record {
+      op = Ack.AckData;
+      size = size;
+      source = source;
+      denied = denied;
+      payload = payload;
+    } }
 {
     Response {
         op: Ack::AckData,
