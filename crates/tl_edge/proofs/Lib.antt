@@ -1,5 +1,6 @@
 pub mod Active
 pub mod Digits
+pub mod Cuts
 pub mod Greatest
 pub mod Heads
 pub mod LaneByLane

@@ -1,5 +1,5 @@
 -- Lists of beats that spell lists of messages.
-use Rattle.std.specs.Prelude.{ℕ, ◌≡◌, ◌<◌, ◌⊎◌, List, [], ◌++◌, All, length, take, IsTrue}
+use Rattle.std.specs.Prelude.{ℕ, ◌≡◌, ◌<◌, ◌⊎◌, List, [], ◌++◌, All, length, take, slice_get, Some, IsTrue}
 use Rattle.std.specs.List.{flat_map, AllZip}
 use Rattle.tl_params.specs.Arguments.{is_width}
 use Rattle.tl_edge.specs.declared.message.Request.{Request}
@@ -71,3 +71,16 @@ pub record SpellingLaw : Type 0 where
       → SpellsResponses width exchanges beats → SpellsResponses width others beats → AllZip TellsSame exchanges others
   pub responses_up_to : (width : ℕ) (exchanges others : List Exchange) (front rest beats : List DBeat) → IsTrue (is_width width)
       → SpellsBackUpTo width exchanges front beats → SpellsBackUpTo width others rest beats → AllZip TellsSame exchanges others × (front ≡ rest)
+
+-- ---- the first of some beats in a row
+
+-- they are those of the first messages, followed at most by the first beats of the next one
+pub record IsCut {A B : Type 0} (beats_of : A → List B) (messages : List A) (beats : List B) : Type 0 where
+  pub count : ℕ
+  pub front : List B
+  pub next : (front ≡ []) ⊎ ((more : A) × (slice_get messages count ≡ Some more) × IsFront (beats_of more) front)
+  pub is : beats ≡ flat_map beats_of (take count messages) ++ front
+
+pub record PrefixLaw : Type 0 where
+  pub requests : (width : ℕ) (requests : List Request) (beats rest : List ABeat) → beats ++ rest ≡ flat_map (beats_of_request width) requests → IsCut (beats_of_request width) requests beats
+  pub responses : (width : ℕ) (exchanges : List Exchange) (beats rest : List DBeat) → beats ++ rest ≡ flat_map (beats_back width) exchanges → IsCut (beats_back width) exchanges beats

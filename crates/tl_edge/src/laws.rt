@@ -1,6 +1,6 @@
 ghost use Rattle.tl_edge.specs.BeatLaws.{HeadsLaw, JoinLaw, LanesLaw, SameLaw};
 ghost use Rattle.tl_edge.specs.Bundles.{BitsLaw};
-ghost use Rattle.tl_edge.specs.Spelling.{SpellingLaw};
+ghost use Rattle.tl_edge.specs.Spelling.{PrefixLaw, SpellingLaw};
 
 /// What the widths of a bundle's wires mean: they are least numbers of bits, of the greatest address that a
 /// slave answers and of the exponent of the largest transfer that one supports.
@@ -31,4 +31,10 @@ pub fn same_law()
 /// A list of beats spells one list of messages at most.
 pub fn spelling_law()
     ensures { SpellingLaw }
+{}
+
+/// The first of some beats in a row are those of the first messages, followed at most by the first beats of the
+/// next one.
+pub fn prefix_law()
+    ensures { PrefixLaw }
 {}

@@ -13,7 +13,7 @@ mod tests;
 
 pub use beat::{ABeat, ABeats, DBeat, DBeats, Event, History, Tag, Tags, What};
 pub use bundle::{Bundle, bundle_of};
-pub use laws::{bits_law, heads_law, join_law, lanes_law, same_law, spelling_law};
+pub use laws::{bits_law, heads_law, join_law, lanes_law, prefix_law, same_law, spelling_law};
 pub use message::{
     Ack, Bytes, Flags, Request, Requests, Response, Responses, answer_of, brings_data, has_data,
     has_flags, has_param,
