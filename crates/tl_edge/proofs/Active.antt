@@ -1,8 +1,8 @@
 -- The active lanes of a message, and the part of it that a beat carries.
-use Rattle.std.proofs.Common.{ℕ, zero, suc, ◌≡◌, ◌+◌, ◌*◌, ◌/◌, ◌%◌, ◌^◌, ◌-◌, ◌<◌, ◌≤◌, ◌⊎◌, inl, inr, min, max, List, [], ◌∷◌, ◌++◌, append_assoc, length, take, drop, replicate, map, Bool, true, false, IsTrue, cond, nat_le, ◌==◌, ◌||◌, lit<, ap, sym, ◌∙◌, refl, arith, pow_pos}
+use Rattle.std.proofs.Common.{ℕ, zero, suc, ◌≡◌, ◌+◌, ◌*◌, ◌/◌, ◌%◌, ◌^◌, ◌-◌, ◌<◌, ◌≤◌, inl, inr, min, List, [], ◌∷◌, ◌++◌, append_assoc, length, take, drop, replicate, map, Bool, true, false, IsTrue, cond, nat_le, ◌==◌, ◌||◌, lit<, ap, sym, ◌∙◌, refl, arith, pow_pos}
 use Rattle.std.specs.Int.{from_bool}
 use Rattle.std.specs.List.{range_with_len}
-use Rattle.std.proofs.Math.Nat.{pow-le-pow_right, mul-le-mul_left, mul-le-mul_right, mod-mod_of_dvd, dvd-mul_right, mul-div_cancel_left}
+use Rattle.std.proofs.Math.Nat.{pow-le-pow_right, mul-le-mul_left, mod-mod_of_dvd, dvd-mul_right, mul-div_cancel_left}
 use Rattle.std.proofs.lemmas.Bool.{or_cases, eqb-true, cases_lt, le-leb, lt-leb, cond-true, cond-false}
 use Rattle.std.proofs.lemmas.Nat.{pow-add, pow_below, div-add-mod', mod_below, div_below, row_fits}
 use Rattle.std.proofs.lemmas.List.{length-take, length-drop, drop-replicate, take-replicate, take_all, length-replicate}
@@ -140,7 +140,7 @@ lanes_fit_word width size address first count is aligned e f =
 
 -- ---- lanes that are all set
 
-take-replicate-min : {A : Type 0} (n m : ℕ) (y : A) → take n (replicate m y) ≡ replicate (min n m) y
+pub take-replicate-min : {A : Type 0} (n m : ℕ) (y : A) → take n (replicate m y) ≡ replicate (min n m) y
 take-replicate-min n m y =
     elim (cases_lt m n) [
       | inl lt ↦ take_all n (replicate m y) (omega (arith, length-replicate m y)) ∙ ap (λ (k : ℕ). replicate k y) (omega arith)

@@ -1,7 +1,7 @@
 -- Numbers by their digits, on the lanes of a bus.
-use Rattle.std.proofs.Common.{ℕ, zero, suc, ◌≡◌, ◌+◌, ◌*◌, ◌^◌, ◌-◌, ◌%◌, ◌<◌, ◌≤◌, List, [], ◌∷◌, length, get_or, drop, replicate, map, Bool, true, false, Fits, w8, lit<, ap, sym, ◌∙◌, refl, arith, pow-suc, pow_pos, add-one, drop-cons}
+use Rattle.std.proofs.Common.{ℕ, zero, suc, ◌≡◌, ◌+◌, ◌*◌, ◌^◌, ◌-◌, ◌%◌, ◌<◌, ◌≤◌, List, [], ◌∷◌, length, get_or, drop, replicate, map, Bool, true, false, Fits, w8, lit<, ap, ◌∙◌, refl, arith, pow-suc, add-one}
 use Rattle.std.proofs.Math.Nat.{mul-le-mul_left, pow-le-pow_right, one-le-pow}
-use Rattle.std.proofs.lemmas.Nat.{pow-add, shl_whole, mul-pow}
+use Rattle.std.proofs.lemmas.Nat.{pow-add, shl_whole}
 use Rattle.std.proofs.lemmas.List.{drop_more, length-map}
 use Rattle.std.specs.List.{drop-map}
 use Rattle.std.specs.Int.{from_bool}

@@ -1,5 +1,11 @@
 pub mod Active
+pub mod Cuts
 pub mod Digits
 mod ExampleSound
+pub mod Greatest
+pub mod Heads
+pub mod LaneByLane
+pub mod Reading
+pub mod Spelled
 pub mod Ways
 pub mod Widths

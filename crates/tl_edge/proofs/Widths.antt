@@ -1,5 +1,5 @@
 -- Numbers of bits.
-use Rattle.std.proofs.Common.{ℕ, zero, suc, ◌≡◌, ◌+◌, ◌*◌, ◌^◌, ◌-◌, ◌/◌, ◌<◌, ◌≤◌, ◌⊎◌, inl, inr, max, lit<, ap, sym, ◌∙◌, refl, subst, rules, arith, pow-suc, pow_pos}
+use Rattle.std.proofs.Common.{ℕ, zero, suc, ◌≡◌, ◌+◌, ◌*◌, ◌^◌, ◌/◌, ◌<◌, ◌≤◌, ◌⊎◌, inl, inr, max, lit<, ap, sym, ◌∙◌, refl, subst, arith, pow-suc, pow_pos}
 use Rattle.std.proofs.Math.Nat.{pow-le-pow_right}
 use Rattle.std.proofs.lemmas.Bool.{cases_lt}
 use Rattle.tl_edge.specs.Bundles.{halvings, digits_of, bits_for, log_of, IsLeastBits}

@@ -1,5 +1,5 @@
 -- The beats of a message: what channel A or D carries in each cycle of it (SiFive TileLink Specification 1.8, chapter 4).
-use Rattle.std.specs.Prelude.{ℕ, ◌+◌, ◌*◌, ◌/◌, ◌%◌, ◌^◌, List, [], ◌∷◌, map, take, drop, replicate, Bool, true, false, cond, nat_le, min, max}
+use Rattle.std.specs.Prelude.{ℕ, ◌+◌, ◌*◌, ◌/◌, ◌%◌, ◌^◌, List, [], ◌∷◌, map, take, drop, replicate, Bool, true, cond, nat_le, min, max}
 use Rattle.std.specs.Int.{from_bool}
 use Rattle.std.specs.List.{range_with_len}
 use Rattle.tl_params.specs.declared.ops.Op.{Op}
@@ -29,6 +29,10 @@ first_lane width size address = cond (nat_le width (bytes_of size)) 0 (address %
 
 abbrev pub lane_count : ℕ → ℕ → ℕ
 lane_count width size = min width (bytes_of size)
+
+-- the lanes of the widest bus
+abbrev pub most_lanes : ℕ
+most_lanes = 8
 
 -- ---- numbers on lanes
 

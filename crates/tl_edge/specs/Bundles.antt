@@ -1,6 +1,6 @@
 -- The widths of an edge's wires: the least numbers of bits that hold what crosses it.
-use Rattle.std.specs.Prelude.{ℕ, zero, suc, ◌-◌, ◌/◌, ◌^◌, ◌<◌, ◌≤◌, List, [], ◌∷◌, max, bit_or}
-use Rattle.dip_sets.specs.Sets.{Pattern}
+use Rattle.std.specs.Prelude.{ℕ, zero, suc, ◌-◌, ◌/◌, ◌^◌, ◌<◌, ◌≤◌, ◌≡◌, List, [], ◌∷◌, Contains, max, bit_or}
+use Rattle.dip_sets.specs.Sets.{Pattern, In}
 use Rattle.tl_params.specs.Operations.{largest}
 use Rattle.tl_params.specs.declared.ports.Slave.{Slave}
 use Rattle.tl_edge.specs.declared.bundle.Bundle.{Bundle}
@@ -29,19 +29,31 @@ bits_for n = max 1 (digits_of n)
 abbrev pub log_of : ℕ → ℕ
 log_of n = digits_of n - 1
 
--- the greatest address in some sets, that with all free bits set, and 0 where there is none
+-- the greatest value of a list's items, 0 where there is none
+abbrev pub greatest_of : {A : Type 0} → (A → ℕ) → List A → ℕ
+greatest_of value [] = 0
+greatest_of value (x ∷ xs) = max (value x) (greatest_of value xs)
+
+-- the greatest address in some sets: in each it is the one with all free bits set
 abbrev pub last_address : List Pattern → ℕ
-last_address [] = 0
-last_address (s ∷ sets) = max (bit_or s.base s.mask) (last_address sets)
+last_address sets = greatest_of (λ s. bit_or s.base s.mask) sets
 
 abbrev pub greatest_address : List Slave → ℕ
-greatest_address [] = 0
-greatest_address (slave ∷ slaves) = max (last_address slave.addresses) (greatest_address slaves)
+greatest_address slaves = greatest_of (λ slave. last_address slave.addresses) slaves
 
--- the bytes of the largest transfer that a slave supports, 0 where there is none
+-- the bytes of the largest transfer that a slave supports
 abbrev pub largest_transfer : List Slave → ℕ
-largest_transfer [] = 0
-largest_transfer (slave ∷ slaves) = max (largest slave.supports) (largest_transfer slaves)
+largest_transfer slaves = greatest_of (λ slave. largest slave.supports) slaves
+
+-- what these numbers mean: no slave answers a greater address and one answers it, if any answers any; likewise for transfers, whose
+-- exponent is the logarithm
+pub record BitsLaw : Type 0 where
+  pub bits : (n : ℕ) → IsLeastBits n (bits_for n)
+  pub no_greater : (slaves : List Slave) (slave : Slave) (set : Pattern) (address : ℕ) → Contains slaves slave → Contains slave.addresses set → In set address → address ≤ greatest_address slaves
+  pub greatest : (slaves : List Slave) → (0 < greatest_address slaves) → (slave : Slave) × Contains slaves slave × ((set : Pattern) × Contains slave.addresses set × In set (greatest_address slaves))
+  pub no_larger : (slaves : List Slave) (slave : Slave) → Contains slaves slave → largest slave.supports ≤ largest_transfer slaves
+  pub largest_one : (slaves : List Slave) → 0 < largest_transfer slaves → (slave : Slave) × Contains slaves slave × (largest slave.supports ≡ largest_transfer slaves)
+  pub exponent : (k : ℕ) → log_of (2 ^ k) ≡ k
 
 -- the bundle of an edge with some slaves, ids from 0 to below an end, and a bus of some bytes
 abbrev pub bundle : List Slave → ℕ → ℕ → Bundle

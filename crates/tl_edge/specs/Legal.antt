@@ -8,7 +8,7 @@ use Rattle.tl_params.specs.Operations.{sizes_of}
 use Rattle.tl_params.specs.Owners.{owner}
 use Rattle.tl_edge.specs.declared.message.Request.{Request}
 use Rattle.tl_edge.specs.declared.plan.PlanEdge.{PlanEdge}
-use Rattle.tl_edge.specs.Messages.{IsRequest, bytes_of, has_param}
+use Rattle.tl_edge.specs.Messages.{IsWholeRequest, bytes_of, has_param}
 
 -- a master has the id, and sends such requests
 abbrev pub Emits : Request → Master → Type 0
@@ -28,7 +28,7 @@ pub record IsOwned (slaves : List Slave) (request : Request) : Type 0 where
 
 -- what a legal request has whoever sends it
 pub record IsAnswerable (slaves : List Slave) (request : Request) : Type 0 where
-  pub whole : IsRequest request
+  pub whole : IsWholeRequest request
   pub param : IsTrue (has_param request.op request.param)
   pub owned : IsOwned slaves request
 

@@ -1,7 +1,10 @@
+pub mod BeatLaws
 pub mod Beats
 pub mod Bundles
 pub mod ExamplePlan
+pub mod Joined
 pub mod Legal
 pub mod Messages
 pub mod Plans
 pub mod SoundPlans
+pub mod Spelling

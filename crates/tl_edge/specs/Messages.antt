@@ -1,5 +1,5 @@
 -- Messages: which params an op has, which op answers it, and how many flags and bytes it carries.
-use Rattle.std.specs.Prelude.{ℕ, ◌≡◌, ◌≤◌, ◌%◌, ◌^◌, ◌==◌, nat_lt, Bool, true, false, cond, length}
+use Rattle.std.specs.Prelude.{ℕ, ◌≡◌, ◌≤◌, ◌<◌, ◌%◌, List, All, ◌^◌, ◌==◌, nat_lt, Bool, true, false, cond, length}
 use Rattle.tl_params.specs.declared.ops.Op.{Op}
 use Rattle.tl_params.specs.declared.ops.Op.TheVariants.{PutFull, PutPartial, Arithmetic, Logical, Get, Intent}
 use Rattle.tl_edge.specs.declared.message.Ack.{Ack}
@@ -67,3 +67,16 @@ pub record Answers (request : Request) (response : Response) : Type 0 where
   pub size : response.size ≡ request.size
   pub source : response.source ≡ request.source
   pub bytes : length response.payload ≡ cond (brings_data response.op) (bytes_of response.size) 0
+
+-- each number is a byte, as all numbers of a message's data are
+abbrev pub AreBytes : List ℕ → Type 0
+AreBytes bytes = All (λ byte. byte < 256) bytes
+
+-- the same with the bytes as bytes: laws speak of lists of numbers
+pub record IsWholeRequest (request : Request) : Type 0 where
+  pub shape : IsRequest request
+  pub bytes : AreBytes request.payload
+
+pub record IsWholeResponse (request : Request) (response : Response) : Type 0 where
+  pub answers : Answers request response
+  pub bytes : AreBytes response.payload

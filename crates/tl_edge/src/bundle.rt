@@ -74,9 +74,9 @@ fn largest_transfer(slaves: &[Slave]) -> u32
     largest
 }
 
-/// The bundle of an edge with these two ports: the least numbers of bits, at least one each, that hold the greatest
-/// address of a slave, the greatest id of a master and the base-2 logarithm of the largest transfer that a slave
-/// supports. What doesn't exist counts as 0.
+/// The bundle of an edge with these two ports: the least numbers of bits, at least one each, that hold the
+/// greatest address of a slave, the greatest id of a master and the base-2 logarithm of the largest transfer
+/// that a slave supports. What doesn't exist counts as 0.
 pub fn bundle_of(down: &DownPort, up: &UpPort) -> Bundle
     ensures value { result ≡ spec.bundle up.now.slaves (ids_of down.now.masters) up.now.beat }
     ensures address { spec.IsLeastBits (spec.greatest_address up.now.slaves) result.address_bits }

@@ -13,7 +13,7 @@ pub(crate) struct Lanes {
 }
 
 impl Lanes {
-    // The active lanes of a message of a size at an address.
+    /// The active lanes of a message of a size at an address.
     pub fn of(width: u32, size: u32, address: u64) -> Lanes
         requires width { IsTrue (is_width width) }
         requires size { size ≤ 8 }
@@ -30,9 +30,9 @@ impl Lanes {
         Lanes { first, count }
     }
 
-    // A bit for each of the lanes.
+    /// A bit for each of the lanes.
     pub fn mask(&self) -> u64
-        requires { self.now.first + self.now.count ≤ 8 }
+        requires { self.now.first + self.now.count ≤ spec.most_lanes }
         ensures { result ≡ spec.on_lanes 2 self.now.first (replicate self.now.count 1) }
     {
         ((1 << self.count) - 1) << self.first
@@ -50,7 +50,7 @@ pub(crate) fn data_beats(size: u32, width: u32) -> u32
 
 // What one beat carries of a list.
 pub(crate) fn part<T>(items: &[T], width: u32, beat: u32) -> &[T]
-    requires width { width ≤ 8 }
+    requires width { width ≤ spec.most_lanes }
     requires beat { beat ≤ 256 }
     requires few { length items.now ≤ 256 }
     ensures { result.now ≡ spec.part width beat items.now }
@@ -62,7 +62,7 @@ pub(crate) fn part<T>(items: &[T], width: u32, beat: u32) -> &[T]
 
 // The number with these bytes on the lanes from a first one on.
 pub(crate) fn on_bytes(first: u32, bytes: &[u8]) -> u64
-    requires { first + length bytes.now ≤ 8 }
+    requires { first + length bytes.now ≤ spec.most_lanes }
     ensures { result ≡ spec.on_bytes first bytes.now }
 {
     let mut lanes = 0;
@@ -74,7 +74,7 @@ pub(crate) fn on_bytes(first: u32, bytes: &[u8]) -> u64
 
 // The number with these flags on the lanes from a first one on.
 pub(crate) fn on_bits(first: u32, flags: &[bool]) -> u64
-    requires { first + length flags.now ≤ 8 }
+    requires { first + length flags.now ≤ spec.most_lanes }
     ensures { result ≡ spec.on_bits first flags.now }
 {
     let mut lanes = 0;

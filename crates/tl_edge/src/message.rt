@@ -1,3 +1,6 @@
+ghost use Rattle.std.specs.Prelude.{◌≡◌};
+ghost use Rattle.tl_edge.specs.Messages as spec;
+
 use dip_lists::Items;
 use tl_params::Op;
 
@@ -55,3 +58,48 @@ pub struct Response {
 
 /// Responses, in order.
 pub type Responses = Items<Response>;
+
+/// Whether a request may have this param: 0 to 4 for arithmetic, 0 to 3 for logical operations, 0 and 1 for
+/// intents, and 0 for the others.
+pub fn has_param(op: Op, param: u32) -> bool
+    ensures { result ≡ spec.has_param op param }
+{
+    match op {
+        Op::Arithmetic => param < 5,
+        Op::Logical => param < 4,
+        Op::Intent => param < 2,
+        Op::PutFull | Op::PutPartial | Op::Get => param == 0,
+    }
+}
+
+/// Whether a request carries data.
+pub fn has_data(op: Op) -> bool
+    ensures { result ≡ spec.has_data op }
+{
+    !matches!(op, Op::Get | Op::Intent)
+}
+
+/// Whether a request says which of its bytes are written.
+pub fn has_flags(op: Op) -> bool
+    ensures { result ≡ spec.has_flags op }
+{
+    matches!(op, Op::PutPartial)
+}
+
+/// The op of the response to a request.
+pub fn answer_of(op: Op) -> Ack
+    ensures { result ≡ spec.answer_of op }
+{
+    match op {
+        Op::PutFull | Op::PutPartial => Ack::Ack,
+        Op::Arithmetic | Op::Logical | Op::Get => Ack::AckData,
+        Op::Intent => Ack::HintAck,
+    }
+}
+
+/// Whether a response carries data.
+pub fn brings_data(op: Ack) -> bool
+    ensures { result ≡ spec.brings_data op }
+{
+    matches!(op, Ack::AckData)
+}

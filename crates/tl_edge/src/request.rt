@@ -4,27 +4,14 @@ ghost use Rattle.tl_edge.specs.Beats as spec;
 ghost use Rattle.tl_edge.specs.Messages as messages;
 
 use crate::lanes::{Lanes, data_beats, on_bits, on_bytes, part};
+use crate::message::{has_data, has_flags};
 use crate::{ABeat, ABeats, Request};
 use dip_lists::{Items, Memory};
 use std::alloc::Global;
 use tl_params::Op;
 
-// Whether a request carries data.
-fn has_data(op: Op) -> bool
-    ensures { result ≡ messages.has_data op }
-{
-    !matches!(op, Op::Get | Op::Intent)
-}
-
-// Whether a request says which of its bytes are written.
-fn has_flags(op: Op) -> bool
-    ensures { result ≡ messages.has_flags op }
-{
-    matches!(op, Op::PutPartial)
-}
-
-/// How many beats a request of a size takes on a bus of `width` bytes: one without data, and else as many as its data
-/// needs.
+/// How many beats a request of a size takes on a bus of `width` bytes: one without data, and else as many as
+/// its data needs.
 pub fn beats(op: Op, size: u32, width: u32) -> u32
     requires size { size ≤ 8 }
     requires width { IsTrue (is_width width) }

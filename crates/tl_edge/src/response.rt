@@ -4,16 +4,10 @@ ghost use Rattle.tl_edge.specs.Beats as spec;
 ghost use Rattle.tl_edge.specs.Messages as messages;
 
 use crate::lanes::{Lanes, data_beats, on_bytes, part};
+use crate::message::brings_data;
 use crate::{Ack, DBeat, DBeats, Request, Response};
 use dip_lists::{Items, Memory};
 use std::alloc::Global;
-
-// Whether a response carries data.
-fn brings_data(op: Ack) -> bool
-    ensures { result ≡ messages.brings_data op }
-{
-    matches!(op, Ack::AckData)
-}
 
 // How many beats a response of a size takes.
 fn response_beats(op: Ack, size: u32, width: u32) -> u32
@@ -34,7 +28,8 @@ fn payload_of(width: u32, request: &Request, response: &Response, beat: u32) -> 
     requires request { messages.IsRequest request.now }
     requires response { messages.Answers request.now response.now }
     requires beat { beat < spec.response_beats response.now.op response.now.size width }
-    ensures { result ≡ spec.data_on_lanes width response.now.size request.now.address beat response.now.payload }
+    ensures { result ≡
+        spec.data_on_lanes width response.now.size request.now.address beat response.now.payload }
 {
     let lanes = Lanes::of(width, response.size, request.address);
     on_bytes(lanes.first, part(response.payload.as_slice(), width, beat))

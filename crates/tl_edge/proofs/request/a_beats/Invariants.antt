@@ -1,6 +1,6 @@
 use Rattle.std.proofs.Common.{◌≡◌, ◌++◌, ◌-◌, map}
 use Rattle.std.specs.List.{range_with_len}
-use Rattle.tl_edge.specs.Beats.{a_beat, beats_of_request, request_beats}
+use Rattle.tl_edge.specs.Beats.{a_beat, beats_of_request}
 use Rattle.tl_edge.proofs.request.a_beats.Given as goal
 
 abbrev pub invariant-loop-beat : goal.invariant-loop-beat

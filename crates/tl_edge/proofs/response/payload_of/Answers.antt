@@ -1,4 +1,4 @@
-use Rattle.std.proofs.Common.{ℕ, List, ap, ◌∙◌, ◌≡◌, ◌%◌, subst, sym}
+use Rattle.std.proofs.Common.{ℕ, List, ap, ◌∙◌, ◌≡◌, ◌%◌}
 use Rattle.tl_edge.specs.Beats.{part}
 use Rattle.tl_edge.specs.Messages.{bytes_of}
 use Rattle.tl_edge.proofs.Active.{part_fits, all_or_none}

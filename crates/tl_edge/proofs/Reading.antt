@@ -1,0 +1,223 @@
+-- Messages read back from their beats.
+use Rattle.std.proofs.Common.{ℕ, zero, suc, ◌≡◌, ◌+◌, ◌*◌, ◌/◌, ◌%◌, ◌^◌, ◌-◌, ◌<◌, ◌≤◌, ◌==◌, min, List, [], ◌∷◌, ◌++◌, length, get_or, take, drop, map, replicate, Bool, true, false, cond, IsTrue, Option, Some, unwrap_or, lit<, ap, sym, ◌∙◌, refl, arith}
+use Rattle.std.specs.Int.{from_bool}
+use Rattle.std.specs.List.{range_with_len, flat_map}
+use Rattle.std.proofs.Math.Nat.{mul-div_cancel_left, add-mul-mod_self_left, add-mul-div_left, mod-eq_of_lt, div-eq_of_lt, mul-le-mul_right}
+use Rattle.std.proofs.lemmas.List.{length-map, length-take, length-drop, drop-drop, drop_all, take-append-drop, nil_from_length, drop-replicate, length-replicate}
+use Rattle.std.proofs.lemmas.Bool.{cond-false}
+use Rattle.tl_params.specs.Arguments.{is_width}
+use Rattle.tl_params.specs.declared.ops.Op.{Op}
+use Rattle.tl_params.specs.declared.ops.Op.TheVariants.{PutFull, PutPartial, Arithmetic, Logical, Get, Intent}
+use Rattle.tl_edge.specs.declared.message.Request.{Request}
+use Rattle.tl_edge.specs.declared.message.Response.{Response}
+use Rattle.tl_edge.specs.Messages.{bytes_of, has_data, has_flags, brings_data, IsWholeRequest, IsWholeResponse}
+use Rattle.tl_edge.specs.Beats.{number, on_lanes, on_bits, on_bytes, part, first_lane, lane_count, data_beats, a_beat, d_beat, request_beats, response_beats, beats_of_request, beats_of_response, data_on_lanes}
+use Rattle.tl_edge.specs.Joined.{digits, active_digits, bytes_in, flags_in, bytes_back, joined_request, joined_response, told}
+use Rattle.tl_edge.specs.BeatLaws.{JoinLaw, SameLaw}
+use Rattle.tl_edge.proofs.Digits.{AreDigits, flag_bits}
+use Rattle.tl_edge.proofs.Active.{IsBus, larger, smaller, compared, take-replicate-min, bus_of, bus_pos, part_within}
+use Rattle.tl_edge.proofs.Heads.{heads_law}
+use Rattle.tl_edge.proofs.LaneByLane.{base_pos, part_digits, digits_from_bytes}
+
+-- ---- the digits of a number
+
+digits-number : (base : ℕ) (xs : List ℕ) → 0 < base → AreDigits base xs → digits base (length xs) (number base xs) ≡ xs
+digits-number base [] b h = refl
+digits-number base (x ∷ xs) b h =
+    let low : (x + base * number base xs) % base ≡ x = add-mul-mod_self_left x base (number base xs) ∙ mod-eq_of_lt (h 0) in
+    let rest : (x + base * number base xs) / base ≡ number base xs = add-mul-div_left x (number base xs) b ∙ ap (λ (n : ℕ). n + number base xs) (div-eq_of_lt (h 0)) ∙ omega arith in
+    ap (λ (n : ℕ). n ∷ digits base (length xs) ((x + base * number base xs) / base)) low
+    ∙ ap (λ (n : ℕ). x ∷ digits base (length xs) n) rest
+    ∙ ap (λ (ys : List ℕ). x ∷ ys) (digits-number base xs b (λ i. h (suc i)))
+
+-- what active lanes that are all filled hold
+active-on_lanes : (base width size address : ℕ) (xs : List ℕ) → 0 < base → AreDigits base xs → length xs ≡ lane_count width size
+    → active_digits base width size address (on_lanes base (first_lane width size address) xs) ≡ xs
+active-on_lanes base width size address xs b h full =
+    ap (λ (n : ℕ). digits base (lane_count width size) n) (mul-div_cancel_left (number base xs) (base_pos base (first_lane width size address) b))
+    ∙ sym (ap (λ (n : ℕ). digits base n (number base xs)) full)
+    ∙ digits-number base xs b h
+
+-- ---- the parts of a list
+
+length-part_full : {A : Type 0} (width size beat : ℕ) (xs : List A) → IsBus width → beat < data_beats size width → length xs ≡ bytes_of size → length (part width beat xs) ≡ lane_count width size
+length-part_full width size beat xs bus h e =
+    omega (arith, e, part_within width size beat bus h, length-take width (drop (beat * width) xs), length-drop (beat * width) xs)
+
+-- so many parts have all that is left
+parts_joined : {A : Type 0} (width count beat : ℕ) (xs : List A) → length xs ≤ (beat + count) * width → flat_map (λ i. part width i xs) (range_with_len beat count) ≡ drop (beat * width) xs
+parts_joined width zero beat xs h = sym (drop_all (beat * width) xs (omega (arith, h)))
+parts_joined {A = A} width (suc count) beat xs h =
+    let left : length xs ≤ (beat + 1 + count) * width = omega (arith, h) in
+    ap (λ (ys : List A). part width beat xs ++ ys) (parts_joined width count (beat + 1) xs left
+    ∙ ap (λ (n : ℕ). drop n xs) (omega arith) ∙ sym (drop-drop width (beat * width) xs))
+    ∙ take-append-drop width (drop (beat * width) xs)
+
+-- the beats of a message have room for all of it, and have all of it
+beats_hold : (width size : ℕ) → IsBus width → bytes_of size ≤ data_beats size width * width
+beats_hold width size bus =
+    elim (compared width size bus) [
+      | larger times some is ↦
+          let count : bytes_of size / width ≡ times = ap (λ (n : ℕ). n / width) is ∙ mul-div_cancel_left times (bus_pos width bus) in
+          let few : times ≤ data_beats size width = omega (arith, count) in
+          omega (arith, is, mul-le-mul_right width few)
+      | smaller times some is below ↦
+          let few : 1 ≤ data_beats size width = omega arith in
+          omega (arith, below, mul-le-mul_right width few)
+    ]
+
+all_parts : {A : Type 0} (width size : ℕ) (xs : List A) → IsBus width → length xs ≡ bytes_of size → flat_map (λ i. part width i xs) (range_with_len 0 (data_beats size width)) ≡ xs
+all_parts width size xs bus e =
+    let enough : length xs ≤ (0 + data_beats size width) * width = omega (arith, e, beats_hold width size bus) in
+    let start : 0 * width ≡ 0 = omega arith in
+    parts_joined width (data_beats size width) 0 xs enough ∙ ap (λ (n : ℕ). drop n xs) start
+
+-- ---- lists of beats
+
+pub flat_map-map : {A B C : Type 0} (f : A → B) (g : B → List C) (xs : List A) → flat_map g (map f xs) ≡ flat_map (λ x. g (f x)) xs
+flat_map-map f g [] = refl
+flat_map-map {C = C} f g (x ∷ xs) = ap (λ (ys : List C). g (f x) ++ ys) (flat_map-map f g xs)
+
+-- functions that agree on the numbers of a range
+flat_map-range : {C : Type 0} (f g : ℕ → List C) (from count : ℕ) → ((i : ℕ) → i < from + count → f i ≡ g i) → flat_map f (range_with_len from count) ≡ flat_map g (range_with_len from count)
+flat_map-range f g from zero h = refl
+flat_map-range {C = C} f g from (suc count) h =
+    ap (λ (ys : List C). ys ++ flat_map f (range_with_len (from + 1) count)) (h from (omega arith))
+    ∙ ap (λ (ys : List C). g from ++ ys) (flat_map-range f g (from + 1) count (λ i l. h i (omega (arith, l))))
+
+flat_map-nil : {A C : Type 0} (xs : List A) → flat_map (λ (x : A). let ys : List C = [] in ys) xs ≡ []
+flat_map-nil [] = refl
+flat_map-nil (x ∷ xs) = flat_map-nil xs
+
+-- ---- what all beats of a message hold: its data, or none
+bytes_read : (kind : Bool) (width size address : ℕ) (xs : List ℕ) → IsBus width → AreDigits 256 xs → length xs ≡ cond kind (bytes_of size) 0
+    → flat_map (λ i. cond kind (active_digits 256 width size address (data_on_lanes width size address i xs)) []) (range_with_len 0 (cond kind (data_beats size width) 1)) ≡ xs
+bytes_read true width size address xs bus h e =
+    flat_map-range (λ i. active_digits 256 width size address (data_on_lanes width size address i xs)) (λ i. part width i xs) 0 (data_beats size width)
+    (λ i l. active-on_lanes 256 width size address (part width i xs) (lit< tt) (part_digits 256 width i xs (lit< tt) h) (length-part_full width size i xs bus (omega (arith, l)) e))
+    ∙ all_parts width size xs bus e
+bytes_read false width size address xs bus h e = sym (nil_from_length xs e)
+
+-- the same where a denied message's data are 0
+number-zeros : (base n : ℕ) → number base (replicate n 0) ≡ 0
+number-zeros base zero = refl
+number-zeros base (suc n) = ap (λ (k : ℕ). 0 + base * k) (number-zeros base n) ∙ omega arith
+
+zeros_on_lanes : (width size address beat n : ℕ) → data_on_lanes width size address beat (replicate n 0) ≡ 0
+zeros_on_lanes width size address beat n =
+    let zeros : part width beat (replicate n 0) ≡ replicate (min width (n - beat * width)) 0 =
+    ap (λ (xs : List ℕ). take width xs) (drop-replicate (beat * width) n 0) ∙ take-replicate-min width (n - beat * width) 0 in
+    ap (λ (xs : List ℕ). on_bytes (first_lane width size address) xs) zeros
+    ∙ ap (λ (k : ℕ). 256 ^ first_lane width size address * k) (number-zeros 256 (min width (n - beat * width))) ∙ omega arith
+
+zeros_are_digits : (n i : ℕ) → get_or (replicate n 0) i 0 < 256
+zeros_are_digits zero i = lit< tt
+zeros_are_digits (suc n) zero = lit< tt
+zeros_are_digits (suc n) (suc i) = zeros_are_digits n i
+
+bytes_read_back : (denied kind : Bool) (width size address : ℕ) (xs : List ℕ) → IsBus width → AreDigits 256 xs → length xs ≡ cond kind (bytes_of size) 0
+    → flat_map (λ i. cond kind (active_digits 256 width size address (cond denied 0 (data_on_lanes width size address i xs))) []) (range_with_len 0 (cond kind (data_beats size width) 1))
+    ≡ cond denied (replicate (length xs) 0) xs
+bytes_read_back false kind width size address xs bus h e = bytes_read kind width size address xs bus h e
+bytes_read_back true kind width size address xs bus h e =
+    flat_map-range (λ i. cond kind (active_digits 256 width size address 0) []) (λ i. cond kind (active_digits 256 width size address (data_on_lanes width size address i (replicate (length xs) 0))) [])
+    0 (cond kind (data_beats size width) 1)
+    (λ i l. ap (λ (n : ℕ). let none : List ℕ = [] in cond kind (active_digits 256 width size address n) none) (sym (zeros_on_lanes width size address i (length xs))))
+    ∙ bytes_read kind width size address (replicate (length xs) 0) bus (zeros_are_digits (length xs)) (length-replicate (length xs) 0 ∙ e)
+
+-- the flags of a message that has any
+map-from_bool : (flags : List Bool) → map (λ bit. bit == 1) (map from_bool flags) ≡ flags
+map-from_bool [] = refl
+map-from_bool (true ∷ flags) = ap (λ (fs : List Bool). true ∷ fs) (map-from_bool flags)
+map-from_bool (false ∷ flags) = ap (λ (fs : List Bool). false ∷ fs) (map-from_bool flags)
+
+flags_on_lanes : (width size address : ℕ) (flags : List Bool) → length flags ≡ lane_count width size
+    → map (λ bit. bit == 1) (active_digits 2 width size address (on_bits (first_lane width size address) flags)) ≡ flags
+flags_on_lanes width size address flags e =
+    ap (λ (xs : List ℕ). map (λ bit. bit == 1) xs) (active-on_lanes 2 width size address (map from_bool flags) (lit< tt) (flag_bits flags) (length-map flags from_bool ∙ e))
+    ∙ map-from_bool flags
+
+flags_read : (op : Op) (width size address : ℕ) (mask : List Bool) → IsBus width → length mask ≡ cond (has_flags op) (bytes_of size) 0
+    → flat_map (λ i. cond (has_flags op) (map (λ bit. bit == 1) (active_digits 2 width size address (on_bits (first_lane width size address) (part width i (cond (has_flags op) mask (replicate (bytes_of size) true)))))) [])
+    (range_with_len 0 (request_beats op size width)) ≡ mask
+flags_read PutPartial width size address mask bus e =
+    flat_map-range (λ i. map (λ bit. bit == 1) (active_digits 2 width size address (on_bits (first_lane width size address) (part width i mask)))) (λ i. part width i mask) 0 (data_beats size width)
+    (λ i l. flags_on_lanes width size address (part width i mask) (length-part_full width size i mask bus (omega (arith, l)) e))
+    ∙ all_parts width size mask bus e
+flags_read PutFull width size address mask bus e = flat_map-nil (range_with_len 0 (data_beats size width)) ∙ sym (nil_from_length mask e)
+flags_read Arithmetic width size address mask bus e = flat_map-nil (range_with_len 0 (data_beats size width)) ∙ sym (nil_from_length mask e)
+flags_read Logical width size address mask bus e = flat_map-nil (range_with_len 0 (data_beats size width)) ∙ sym (nil_from_length mask e)
+flags_read Get width size address mask bus e = sym (nil_from_length mask e)
+flags_read Intent width size address mask bus e = sym (nil_from_length mask e)
+
+-- ---- whole messages
+
+rebuilt : Request → List Bool → List ℕ → Request
+rebuilt request mask payload = record { op = request.op; param = request.param; size = request.size; source = request.source; address = request.address; mask = mask; payload = payload }
+
+joined_beats : (width count : ℕ) (request : Request) → 1 ≤ count → joined_request width (map (a_beat width request) (range_with_len 0 count))
+    ≡ Some (rebuilt request (flat_map (flags_in width) (map (a_beat width request) (range_with_len 0 count))) (flat_map (bytes_in width) (map (a_beat width request) (range_with_len 0 count))))
+unfolding rebuilt
+joined_beats width zero request h = absurd (omega arith)
+joined_beats width (suc count) request h = refl
+
+request_joined : (width : ℕ) (request : Request) → IsTrue (is_width width) → IsWholeRequest request → joined_request width (beats_of_request width request) ≡ Some request
+unfolding rebuilt
+request_joined width request is_bus is =
+    let bus : IsBus width = bus_of width is_bus in
+    let count : ℕ = request_beats request.op request.size width in
+    let flags : flat_map (flags_in width) (beats_of_request width request) ≡ request.mask =
+    flat_map-map (a_beat width request) (flags_in width) (range_with_len 0 (request_beats request.op request.size width)) ∙ flags_read request.op width request.size request.address request.mask bus is.shape.flags in
+    let bytes : flat_map (bytes_in width) (beats_of_request width request) ≡ request.payload =
+    flat_map-map (a_beat width request) (bytes_in width) (range_with_len 0 (request_beats request.op request.size width))
+    ∙ bytes_read (has_data request.op) width request.size request.address request.payload bus (digits_from_bytes request.payload is.bytes) is.shape.bytes in
+    joined_beats width (request_beats request.op request.size width) request (heads_law.request_some width request)
+    ∙ ap (λ (mask : List Bool). Some (rebuilt request mask (flat_map (bytes_in width) (beats_of_request width request)))) flags
+    ∙ ap (λ (payload : List ℕ). Some (rebuilt request request.mask payload)) bytes
+
+answered : Response → List ℕ → Response
+answered response payload = record { op = response.op; size = response.size; source = response.source; denied = response.denied; payload = payload }
+
+joined_beats_back : (width address count : ℕ) (response : Response) → 1 ≤ count → joined_response width address (map (d_beat width address response) (range_with_len 0 count))
+    ≡ Some (answered response (flat_map (bytes_back width address) (map (d_beat width address response) (range_with_len 0 count))))
+unfolding answered
+joined_beats_back width address zero response h = absurd (omega arith)
+joined_beats_back width address (suc count) response h = refl
+
+response_joined : (width : ℕ) (request : Request) (response : Response) → IsTrue (is_width width) → IsWholeRequest request → IsWholeResponse request response
+    → joined_response width request.address (beats_of_response width request.address response) ≡ Some (told response)
+unfolding answered
+response_joined width request response is_bus is back =
+    let bytes : flat_map (bytes_back width request.address) (beats_of_response width request.address response) ≡ cond response.denied (replicate (length response.payload) 0) response.payload =
+    flat_map-map (d_beat width request.address response) (bytes_back width request.address) (range_with_len 0 (response_beats response.op response.size width))
+    ∙ bytes_read_back response.denied (brings_data response.op) width response.size request.address response.payload (bus_of width is_bus) (digits_from_bytes response.payload back.bytes) back.answers.bytes in
+    joined_beats_back width request.address (response_beats response.op response.size width) response (heads_law.response_some width response)
+    ∙ ap (λ (payload : List ℕ). Some (answered response payload)) bytes
+
+pub join_law : JoinLaw
+join_law = record { requests = request_joined; responses = response_joined }
+
+-- ---- messages with the same beats
+
+same_request : (width : ℕ) (request other : Request) → IsTrue (is_width width) → IsWholeRequest request → IsWholeRequest other → beats_of_request width request ≡ beats_of_request width other → request ≡ other
+same_request width request other bus is is_too e =
+    ap (λ (o : Option Request). unwrap_or o request) (sym (request_joined width request bus is) ∙ ap (joined_request width) e ∙ request_joined width other bus is_too)
+
+same_told : (width : ℕ) (request : Request) (response other : Response) → IsTrue (is_width width) → IsWholeRequest request → IsWholeResponse request response → IsWholeResponse request other
+    → beats_of_response width request.address response ≡ beats_of_response width request.address other → told response ≡ told other
+same_told width request response other bus is back back_too e =
+    ap (λ (o : Option Response). unwrap_or o (told response)) (sym (response_joined width request response bus is back) ∙ ap (joined_response width request.address) e ∙ response_joined width request other bus is back_too)
+
+told_granted : (response : Response) → response.denied ≡ false → told response ≡ response
+unfolding answered
+told_granted response h = ap (λ (payload : List ℕ). answered response payload) (cond-false response.denied (replicate (length response.payload) 0) response.payload h)
+
+pub same_law : SameLaw
+same_law = record {
+  requests = same_request;
+  responses = same_told;
+  granted = λ width request response other bus is back back_too granted e.
+      let same : told response ≡ told other = same_told width request response other bus is back back_too e in
+      let granted_too : other.denied ≡ false = sym (ap (λ (r : Response). r.denied) same) ∙ granted in
+      sym (told_granted response granted) ∙ same ∙ told_granted other granted_too;
+}

@@ -1,0 +1,86 @@
+-- Lists of beats that spell lists of messages.
+use Rattle.std.specs.Prelude.{ℕ, ◌≡◌, ◌<◌, ◌⊎◌, List, [], ◌++◌, All, length, take, slice_get, Some, IsTrue}
+use Rattle.std.specs.List.{flat_map, AllZip}
+use Rattle.tl_params.specs.Arguments.{is_width}
+use Rattle.tl_edge.specs.declared.message.Request.{Request}
+use Rattle.tl_edge.specs.declared.message.Response.{Response}
+use Rattle.tl_edge.specs.declared.beat.ABeat.{ABeat}
+use Rattle.tl_edge.specs.declared.beat.DBeat.{DBeat}
+use Rattle.tl_edge.specs.Messages.{IsWholeRequest, IsWholeResponse}
+use Rattle.tl_edge.specs.Beats.{beats_of_request, beats_of_response}
+use Rattle.tl_edge.specs.Joined.{told}
+
+-- the first beats of a message, and not all of them
+pub record IsFront {B : Type 0} (beats front : List B) : Type 0 where
+  pub count : ℕ
+  pub short : count < length beats
+  pub is : front ≡ take count beats
+
+-- ---- requests
+
+-- a list of beats spells requests where it is their beats joined in order
+abbrev pub SpellsRequests : ℕ → List Request → List ABeat → Type 0
+SpellsRequests width requests beats = beats ≡ flat_map (beats_of_request width) requests
+
+-- nothing, or the first beats of one more request
+abbrev pub BeginsRequest : ℕ → List ABeat → Type 0
+BeginsRequest width front = (front ≡ []) ⊎ ((more : Request) × IsWholeRequest more × IsFront (beats_of_request width more) front)
+
+-- a list of beats spells requests, followed at most by the first beats of one more
+pub record SpellsUpTo (width : ℕ) (requests : List Request) (front beats : List ABeat) : Type 0 where
+  pub whole : All IsWholeRequest requests
+  pub begins : BeginsRequest width front
+  pub is : beats ≡ flat_map (beats_of_request width) requests ++ front
+
+-- ---- responses, each with the request that it answers
+
+pub record Exchange : Type 0 where
+  pub request : Request
+  pub response : Response
+
+pub record IsExchange (exchange : Exchange) : Type 0 where
+  pub request : IsWholeRequest exchange.request
+  pub response : IsWholeResponse exchange.request exchange.response
+
+abbrev pub beats_back : ℕ → Exchange → List DBeat
+beats_back width exchange = beats_of_response width exchange.request.address exchange.response
+
+abbrev pub SpellsResponses : ℕ → List Exchange → List DBeat → Type 0
+SpellsResponses width exchanges beats = beats ≡ flat_map (beats_back width) exchanges
+
+abbrev pub BeginsResponse : ℕ → List DBeat → Type 0
+BeginsResponse width front = (front ≡ []) ⊎ ((more : Exchange) × IsExchange more × IsFront (beats_back width more) front)
+
+pub record SpellsBackUpTo (width : ℕ) (exchanges : List Exchange) (front beats : List DBeat) : Type 0 where
+  pub whole : All IsExchange exchanges
+  pub begins : BeginsResponse width front
+  pub is : beats ≡ flat_map (beats_back width) exchanges ++ front
+
+-- ---- what is spelled is determined by the beats
+
+-- two responses to one request tell the same
+abbrev pub TellsSame : Exchange → Exchange → Type 0
+TellsSame one other = one.request ≡ other.request → told one.response ≡ told other.response
+
+pub record SpellingLaw : Type 0 where
+  pub requests : (width : ℕ) (requests others : List Request) (beats : List ABeat) → IsTrue (is_width width) → All IsWholeRequest requests → All IsWholeRequest others
+      → SpellsRequests width requests beats → SpellsRequests width others beats → requests ≡ others
+  pub requests_up_to : (width : ℕ) (requests others : List Request) (front rest beats : List ABeat) → IsTrue (is_width width)
+      → SpellsUpTo width requests front beats → SpellsUpTo width others rest beats → (requests ≡ others) × (front ≡ rest)
+  pub responses : (width : ℕ) (exchanges others : List Exchange) (beats : List DBeat) → IsTrue (is_width width) → All IsExchange exchanges → All IsExchange others
+      → SpellsResponses width exchanges beats → SpellsResponses width others beats → AllZip TellsSame exchanges others
+  pub responses_up_to : (width : ℕ) (exchanges others : List Exchange) (front rest beats : List DBeat) → IsTrue (is_width width)
+      → SpellsBackUpTo width exchanges front beats → SpellsBackUpTo width others rest beats → AllZip TellsSame exchanges others × (front ≡ rest)
+
+-- ---- the first of some beats in a row
+
+-- they are those of the first messages, followed at most by the first beats of the next one
+pub record IsCut {A B : Type 0} (beats_of : A → List B) (messages : List A) (beats : List B) : Type 0 where
+  pub count : ℕ
+  pub front : List B
+  pub next : (front ≡ []) ⊎ ((more : A) × (slice_get messages count ≡ Some more) × IsFront (beats_of more) front)
+  pub is : beats ≡ flat_map beats_of (take count messages) ++ front
+
+pub record PrefixLaw : Type 0 where
+  pub requests : (width : ℕ) (requests : List Request) (beats rest : List ABeat) → beats ++ rest ≡ flat_map (beats_of_request width) requests → IsCut (beats_of_request width) requests beats
+  pub responses : (width : ℕ) (exchanges : List Exchange) (beats rest : List DBeat) → beats ++ rest ≡ flat_map (beats_back width) exchanges → IsCut (beats_back width) exchanges beats

@@ -1,0 +1,40 @@
+ghost use Rattle.tl_edge.specs.BeatLaws.{HeadsLaw, JoinLaw, LanesLaw, SameLaw};
+ghost use Rattle.tl_edge.specs.Bundles.{BitsLaw};
+ghost use Rattle.tl_edge.specs.Spelling.{PrefixLaw, SpellingLaw};
+
+/// What the widths of a bundle's wires mean: they are least numbers of bits, of the greatest address that a
+/// slave answers and of the exponent of the largest transfer that one supports.
+pub fn bits_law()
+    ensures { BitsLaw }
+{}
+
+/// The control fields are constant over the beats of a message, of which there are as many as stated.
+pub fn heads_law()
+    ensures { HeadsLaw }
+{}
+
+/// What each lane of each beat of a message holds.
+pub fn lanes_law()
+    ensures { LanesLaw }
+{}
+
+/// Put together, the beats of a message give it back.
+pub fn join_law()
+    ensures { JoinLaw }
+{}
+
+/// Messages with the same beats are the same.
+pub fn same_law()
+    ensures { SameLaw }
+{}
+
+/// A list of beats spells one list of messages at most.
+pub fn spelling_law()
+    ensures { SpellingLaw }
+{}
+
+/// The first of some beats in a row are those of the first messages, followed at most by the first beats of the
+/// next one.
+pub fn prefix_law()
+    ensures { PrefixLaw }
+{}
