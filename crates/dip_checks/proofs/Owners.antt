@@ -1,13 +1,13 @@
 -- Where sets are disjoint, two slaves with the same address are one.
-use Rattle.std.proofs.Common.{◌≡◌, ℕ, zero, suc, ◌<◌, ◌⊎◌, inl, inr, ⊎_elim, List, [], ◌∷◌, ◌++◌, Option, Some, None, refl, sym, ◌∙◌, ap, subst, arith}
+use Rattle.std.proofs.Common.{◌≡◌, ℕ, zero, suc, ◌⊎◌, inl, inr, ⊎_elim, List, [], ◌∷◌, ◌++◌, Option, Some, refl, sym, ap, subst, arith}
 use Rattle.std.specs.Prelude.{All, AllPairs, Contains, slice_get}
 use Rattle.std.specs.Option.{IsSomeAnd}
 use Rattle.std.proofs.lemmas.List.Elements.{All-contains, All-weaker, Contains-push_cases, Contains-append_left, Contains-append_right, Contains-append_cases}
-use Rattle.dip_sets.specs.Sets.{Pattern, In, InSome, Disjoint}
+use Rattle.dip_sets.specs.Sets.{Pattern, InSome, Disjoint}
 use Rattle.tl_params.specs.declared.ports.Slave.{Slave}
 use Rattle.tl_params.specs.declared.ports.UpPort.{UpPort}
 use Rattle.dip_checks.specs.Checks.{sets_of}
-use Rattle.dip_checks.specs.Apart.{HasDisjointSets, Owns, HasOneOwnerEach}
+use Rattle.dip_checks.specs.Apart.{HasDisjointSets, HasOneOwnerEach}
 use Rattle.dip_checks.specs.Laws.{OneOwnerLaw}
 
 nowhere : {X : Type 0} (x : X) → Contains [] x → ⊥

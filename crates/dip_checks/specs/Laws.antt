@@ -1,5 +1,5 @@
 -- What the checks mean: which failure is answered, and whose an address is.
-use Rattle.std.specs.Prelude.{ℕ, ◌≡◌, List, Some, None}
+use Rattle.std.specs.Prelude.{◌≡◌, List, Some, None}
 use Rattle.dip_lists.specs.First.{Failure, first_failing}
 use Rattle.dip_lists.specs.FirstLaw.{Fails, AreInOrder, IsFirstFailure}
 use Rattle.tl_params.specs.declared.ports.UpPort.{UpPort}
