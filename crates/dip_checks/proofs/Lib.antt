@@ -1,4 +1,5 @@
 pub mod Disjointness
+pub mod Rows
 pub mod Owners
 pub mod Order
 pub mod Stars

@@ -7,7 +7,7 @@ ghost use Rattle.dip_graph.specs.Faults.{IsFaultAt, IsFaultOf};
 ghost use Rattle.dip_checks.specs.Apart.{HasDisjointSets};
 ghost use Rattle.dip_checks.specs.Checks as spec;
 
-use crate::sets::{edge_is_misaligned, has_overlap, sets_of};
+use crate::sets::{edge_is_misaligned, sets_of, some_overlap};
 use dip_graph::Fault;
 use dip_lists::{Items, Memory, Same};
 use std::alloc::Global;
@@ -80,7 +80,7 @@ fn edge_overlaps(alloc: Global, up: &UpPort) -> Result<bool, Memory>
     ensures { IfOk result (λ overlaps. overlaps ≡ spec.edge_overlaps up.now) }
 {
     let sets = sets_of(alloc, up.slaves.as_slice())?;
-    Ok(has_overlap(sets.as_slice()))
+    Ok(some_overlap(sets))
 }
 
 // Whether an edge has these slaves.
