@@ -1,12 +1,15 @@
 -- Edges that pass check 14 have no address in two sets.
-use Rattle.std.proofs.Common.{ℕ, ◌≡◌, ◌+◌, List, [], ◌∷◌, Bool, true, false, ◌||◌, cond, Some, None, Result, Ok, Err, refl, sym, ◌∙◌, ap, arith}
-use Rattle.std.specs.Prelude.{OnOk}
-use Rattle.std.specs.List.{All, AllPairs, list_any}
-use Rattle.std.proofs.lemmas.List.Elements.{All-cons}
+use Rattle.std.proofs.Common.{ℕ, ◌≡◌, ◌+◌, ◌<◌, List, [], ◌∷◌, ◌++◌, length, get_or, Bool, true, false, ◌||◌, cond, Option, Some, None, Result, Ok, Err, refl, sym, subst, arith}
+use Rattle.std.specs.Prelude.{OnOk, slice_get}
+use Rattle.std.specs.List.{All, AllPairs, Any, list_any}
+use Rattle.std.specs.Option.{IsSomeAnd}
+use Rattle.std.proofs.lemmas.List.Elements.{All-cons, All-contains, All-push, All-same}
+use Rattle.std.proofs.lemmas.Option.{slice_get_read}
 use Rattle.std.proofs.lemmas.List.Kept.{AllPairs-cons}
 use Rattle.dip_sets.specs.Sets.{Pattern, Disjoint, overlap}
 use Rattle.dip_sets.proofs.Members.{disjoint_from_test}
 use Rattle.dip_lists.specs.First.{first, places}
+use Rattle.tl_params.specs.declared.ports.Slave.{Slave}
 use Rattle.tl_params.specs.declared.ports.UpPort.{UpPort}
 use Rattle.dip_checks.specs.Checks.{sets_of, has_overlap, edge_overlaps, overlapping_edges}
 use Rattle.dip_checks.specs.Apart.{HasDisjointSets}
@@ -36,6 +39,29 @@ apart_from number [] h = λ k d lt. absurd (omega arith)
 apart_from number (up ∷ ups) h =
     let both = passes_here (edge_overlaps up) number (places (λ n up. edge_overlaps up) (number + 1) ups) h in
     All-cons HasDisjointSets up ups (all_apart (sets_of up.slaves) both.0) (apart_from (number + 1) ups both.1)
+
+-- no two sets of the edge with this number have a common address
+abbrev pub IsApart : List UpPort → ℕ → Type 0
+IsApart ups edge = IsSomeAnd (slice_get ups edge) (λ up. edge_overlaps up ≡ false)
+
+abbrev pub HasSlaves : List UpPort → List Slave → ℕ → Type 0
+HasSlaves ups slaves edge = IsSomeAnd (slice_get ups edge) (λ up. up.slaves ≡ slaves)
+
+apart_by : (slaves : List Slave) (o : Option UpPort) → IsSomeAnd o (λ up. edge_overlaps up ≡ false) → IsSomeAnd o (λ up. up.slaves ≡ slaves) → has_overlap (sets_of slaves) ≡ false
+apart_by slaves None apart same = absurd apart
+apart_by slaves (Some up) apart same = subst (λ (s : List Slave). has_overlap (sets_of s) ≡ false) same apart
+
+-- what is found of an edge holds of another one with its slaves
+pub known_apart : (ups : List UpPort) (edges : List ℕ) (slaves : List Slave) → All (IsApart ups) edges → Any (HasSlaves ups slaves) edges → has_overlap (sets_of slaves) ≡ false
+known_apart ups edges slaves apart same =
+    apart_by slaves (slice_get ups same.1) (All-contains (IsApart ups) edges same.1 apart (same.0, same.2, same.3)) same.4
+
+-- an edge that was found apart stands behind the others
+pub apart_more : (ups : List UpPort) (edges more : List ℕ) (edge : ℕ) (up : UpPort) → more ≡ edges ++ edge ∷ [] → edge < length ups → up ≡ get_or ups edge up → edge_overlaps up ≡ false
+    → All (IsApart ups) edges → All (IsApart ups) more
+apart_more ups edges more edge up is within here apart all =
+    let at_edge : IsApart ups edge = subst (λ (o : Option UpPort). IsSomeAnd o (λ u. edge_overlaps u ≡ false)) (sym (slice_get_read ups (length ups) edge up refl within here)) apart in
+    All-same (IsApart ups) more (edges ++ edge ∷ []) is (All-push (IsApart ups) edges edge all at_edge)
 
 pub edges_apart : (ups : List UpPort) → first (overlapping_edges ups) ≡ None → All HasDisjointSets ups
 edges_apart ups h = apart_from 0 ups h

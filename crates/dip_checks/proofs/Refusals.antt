@@ -1,15 +1,14 @@
 -- The refusals of rules as failures of the checks 11 and 12.
-use Rattle.std.proofs.Common.{◌≡◌, ℕ, List, [], ◌∷◌, Option, Some, None, Result, Ok, Err, refl, sym, ap, ◌∙◌, ◌⊎◌, inl, inr}
+use Rattle.std.proofs.Common.{◌≡◌, ℕ, List, [], ◌∷◌, Option, Some, None, Result, Ok, Err, refl, sym, ap, ◌∙◌, inl, inr}
 use Rattle.std.specs.Prelude.{IsOk}
 use Rattle.std.specs.Option.{option_map, option_or}
-use Rattle.dip_lists.specs.First.{Check, check, Failure, failure_of, first, first_failing}
+use Rattle.dip_lists.specs.First.{check, Failure, failure_of, first, first_failing}
 use Rattle.tl_params.specs.declared.ports.DownPort.{DownPort}
 use Rattle.tl_params.specs.declared.ports.UpPort.{UpPort}
 use Rattle.dip_graph.specs.declared.design.Design.{Design}
 use Rattle.dip_graph.specs.declared.edges.Edge.{Edge}
 use Rattle.dip_rule.specs.Stated.{StatedRule}
 use Rattle.dip_negotiate.specs.declared.steps.End.{End}
-use Rattle.dip_negotiate.specs.declared.solution.NegFault.{NegFault}
 use Rattle.dip_negotiate.specs.declared.solution.NegFault.TheVariants.{DownRefused, UpRefused}
 use Rattle.dip_negotiate.specs.Passes.{Refusal}
 use Rattle.dip_negotiate.specs.Places.{source_end, sink_end}

@@ -1,9 +1,7 @@
 -- An accepted design has the only solution.
-use Rattle.std.proofs.Common.{◌≡◌, List, None, Ok, refl, sym, subst}
+use Rattle.std.proofs.Common.{◌≡◌, List, None, Ok, sym, subst}
 use Rattle.std.specs.Prelude.{All}
 use Rattle.dip_lists.specs.First.{first}
-use Rattle.tl_params.specs.declared.ports.DownPort.{DownPort}
-use Rattle.tl_params.specs.declared.ports.UpPort.{UpPort}
 use Rattle.dip_graph.specs.Orders.{left_out}
 use Rattle.dip_graph.specs.declared.design.Design.{Design}
 use Rattle.dip_graph.specs.declared.edges.Edge.{Edge}

@@ -1,13 +1,11 @@
 -- The faults of star bindings as failures of the checks 8 to 10.
-use Rattle.std.proofs.Common.{◌≡◌, ℕ, List, [], ◌∷◌, Option, Some, None, refl, ap, ◌∙◌, ◌⊎◌, inl, inr}
+use Rattle.std.proofs.Common.{◌≡◌, ℕ, List, [], ◌∷◌, Option, Some, None, ap, ◌∙◌, inl, inr}
 use Rattle.std.specs.Option.{option_map, option_or}
-use Rattle.dip_lists.specs.First.{Check, check, Failure, failure_of, first, first_failing}
-use Rattle.dip_graph.specs.declared.design.NodeEntry.{NodeEntry}
+use Rattle.dip_lists.specs.First.{check, Failure, failure_of, first_failing}
 use Rattle.dip_graph.specs.declared.design.Design.{Design}
 use Rattle.dip_rule.specs.Stated.{StatedRule}
-use Rattle.dip_stars.specs.declared.stars.StarFault.{StarFault}
 use Rattle.dip_stars.specs.declared.stars.StarFault.TheVariants.{StarsWait, Arity, TooManyEdges}
-use Rattle.dip_stars.specs.Edges.{design_counts, waiting, unfilled, excess, IsStarFault, AreResolved}
+use Rattle.dip_stars.specs.Edges.{design_counts, unfilled, excess, IsStarFault, AreResolved}
 use Rattle.dip_checks.specs.Checks.{star_checks}
 
 abbrev found : ℕ → Option ℕ → Option Failure

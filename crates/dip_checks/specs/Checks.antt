@@ -1,5 +1,5 @@
 -- The checks of designs after those of their files.
-use Rattle.std.specs.Prelude.{ℕ, ◌+◌, ◌*◌, ◌/◌, ◌==◌, List, [], ◌∷◌, ◌++◌, length, Bool, true, false, ◌||◌, ◌&&◌, not, cond, nat_lt, nat_le, Option, Some, None, is_none, unwrap_or, Result, Ok, Err, slice_get, map}
+use Rattle.std.specs.Prelude.{ℕ, ◌==◌, List, [], ◌∷◌, ◌++◌, length, Bool, true, false, ◌||◌, ◌&&◌, not, cond, nat_lt, nat_le, Option, Some, None, is_none, Result, Ok, Err}
 use Rattle.std.specs.List.{list_any}
 use Rattle.dip_lists.specs.First.{Check, check, places}
 use Rattle.dip_sets.specs.Sets.{Pattern, overlap, alignment}
@@ -9,7 +9,7 @@ use Rattle.tl_params.specs.declared.ports.Master.{Master}
 use Rattle.tl_params.specs.declared.ports.Slave.{Slave}
 use Rattle.tl_params.specs.declared.ports.DownPort.{DownPort}
 use Rattle.tl_params.specs.declared.ports.UpPort.{UpPort}
-use Rattle.tl_params.specs.Operations.{largest, is_nexus}
+use Rattle.tl_params.specs.Operations.{largest}
 use Rattle.dip_graph.specs.Kinds.{kind_at}
 use Rattle.dip_graph.specs.Orders.{left_out}
 use Rattle.dip_graph.specs.declared.design.NodeKind.{NodeKind}

@@ -3,7 +3,7 @@ ghost use Rattle.dip_lists.specs.First.{first_failing};
 ghost use Rattle.dip_graph.specs.Faults.{IsFaultOf};
 ghost use Rattle.dip_rule.specs.Stated.{stated_rule};
 ghost use Rattle.dip_negotiate.specs.Negotiation.{HasNodes, IsOnlySolution, downs, ups};
-ghost use Rattle.dip_checks.specs.Apart.{HasDisjointSets};
+ghost use Rattle.dip_checks.specs.Apart.{HasDisjointSets, HasOneOwnerEach};
 ghost use Rattle.dip_checks.specs.Checks as spec;
 
 use crate::Accepted;
@@ -92,6 +92,7 @@ pub fn check_design(alloc: Global, design: &Design, rules: &Rules) -> Result<Acc
         e.template ((⟦<dyn Rule as Rule>⟧ e.rule.vtable).says_down e.rule.value) ((⟦<dyn Rule as Rule>⟧
         e.rule.vtable).says_up e.rule.value)) rules.now.entries) design.now))) }
     ensures apart { IfOk result (λ accepted. All HasDisjointSets accepted.solution.up) }
+    ensures owners { IfOk result (λ accepted. All HasOneOwnerEach accepted.solution.up) }
 {
     let edges = graph(alloc, design, rules)?;
     let solution = solved(alloc, rules, design, edges.as_slice())?;

@@ -1,4 +1,5 @@
-ghost use Rattle.std.specs.Prelude.{◌≡◌, None, IfOk, IfErr, OnOk, All};
+ghost use Rattle.std.specs.Prelude.{◌≡◌, ◌↔◌, None, slice_get, IsTrue, IfOk, IfErr, OnOk, All, Any};
+ghost use Rattle.std.specs.Option.{IsSomeAnd};
 ghost use Rattle.std.specs.List.{list_any};
 ghost use Rattle.dip_lists.specs.First.{first, first_failing};
 ghost use Rattle.dip_sets.specs.Ids.{overlap_ids};
@@ -6,11 +7,11 @@ ghost use Rattle.dip_graph.specs.Faults.{IsFaultAt, IsFaultOf};
 ghost use Rattle.dip_checks.specs.Apart.{HasDisjointSets};
 ghost use Rattle.dip_checks.specs.Checks as spec;
 
-use crate::sets::{edge_is_misaligned, has_overlap, sets_of};
+use crate::sets::{edge_is_misaligned, sets_of, some_overlap};
 use dip_graph::Fault;
-use dip_lists::Memory;
+use dip_lists::{Items, Memory, Same};
 use std::alloc::Global;
-use tl_params::{DownPort, Master, UpPort};
+use tl_params::{DownPort, Master, Slaves, UpPort};
 
 /// The most ids on an edge.
 const MOST_IDS: u32 = 1024;
@@ -79,21 +80,46 @@ fn edge_overlaps(alloc: Global, up: &UpPort) -> Result<bool, Memory>
     ensures { IfOk result (λ overlaps. overlaps ≡ spec.edge_overlaps up.now) }
 {
     let sets = sets_of(alloc, up.slaves.as_slice())?;
-    Ok(has_overlap(sets.as_slice()))
+    Ok(some_overlap(sets))
+}
+
+// Whether an edge has these slaves.
+fn has_slaves(ups: &[UpPort], edge: usize, slaves: &Slaves) -> bool
+    ensures { IsTrue result ↔ (IsSomeAnd (slice_get ups.now edge) (λ up. up.slaves ≡ slaves.now)) }
+{
+    match ups.get(edge) {
+        Some(up) => up.slaves.same(slaves),
+        None => false,
+    }
+}
+
+// Whether one of these edges has these slaves.
+fn some_have_slaves(ups: &[UpPort], edges: &[usize], slaves: &Slaves) -> bool
+    ensures { IsTrue result ↔ Any (λ edge. IsSomeAnd (slice_get ups.now edge) (λ up. up.slaves ≡ slaves.now))
+        edges.now }
+{
+    edges.iter().any(|edge| has_slaves(ups, *edge, slaves))
 }
 
 // Check 14: no two address sets of an edge have a common address.
+//
+// Where slaves are those of an edge that was already found to be in order, they are not looked at again.
 fn sets_are_apart(alloc: Global, ups: &[UpPort]) -> Result<(), Fault>
     ensures passes { OnOk result (first (spec.overlapping_edges ups.now) ≡ None) }
     ensures err { IfErr result (IsFaultAt 14 (spec.overlapping_edges ups.now)) }
 {
+    let mut apart = Items::new(alloc);
     for (edge, up) in ups.iter().enumerate() {
+        if some_have_slaves(ups, apart.as_slice(), &up.slaves) {
+            continue;
+        }
         if edge_overlaps(alloc, up)? {
             return Err(Fault::Check {
                 number: 14,
                 subject: edge as u64,
             });
         }
+        apart.push(edge)?;
     }
     Ok(())
 }

@@ -7,9 +7,11 @@ mod check;
 mod edges;
 mod fit;
 mod graph;
+mod laws;
 mod rules;
 mod sets;
 mod weights;
 
 pub use accepted::Accepted;
 pub use check::check_design;
+pub use laws::{check_order_law, one_owner_law};

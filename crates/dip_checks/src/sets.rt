@@ -1,7 +1,8 @@
-ghost use Rattle.std.specs.Prelude.{◌≡◌, ◌++◌, IfOk, OnOk};
-ghost use Rattle.std.specs.List.{list_any};
+ghost use Rattle.std.specs.Prelude.{◌≡◌, ◌↔◌, ◌++◌, length, IsTrue, IfOk, OnOk};
+ghost use Rattle.std.specs.List.{AllAdjacentBelow, list_any};
 ghost use Rattle.dip_sets.specs.Sets.{overlap};
 ghost use Rattle.dip_checks.specs.Checks as spec;
+ghost use Rattle.dip_checks.specs.Rows.{EndsBefore};
 
 use dip_lists::{Items, Memory};
 use dip_sets::AddressSet;
@@ -14,8 +15,8 @@ fn overlaps_any(set: &AddressSet, others: &[AddressSet]) -> bool
     others.iter().any(|other| set.overlaps(other))
 }
 
-/// Whether two of some sets have a common address.
-pub fn has_overlap(sets: &[AddressSet]) -> bool
+// Whether two of some sets have a common address, pair by pair.
+fn has_overlap(sets: &[AddressSet]) -> bool
     ensures { result ≡ spec.has_overlap sets.now }
 {
     for place in 0..sets.len() {
@@ -24,6 +25,39 @@ pub fn has_overlap(sets: &[AddressSet]) -> bool
         }
     }
     false
+}
+
+fn ends_before(set: &AddressSet, other: &AddressSet) -> bool
+    ensures { IsTrue result ↔ EndsBefore set.now other.now }
+{
+    set.base() + set.mask() < other.base()
+}
+
+// Whether each set ends before the next one begins.
+fn stand_in_row(sets: &[AddressSet]) -> bool
+    ensures { IsTrue result ↔ AllAdjacentBelow EndsBefore sets.now (length sets.now) }
+{
+    for place in 1..sets.len() {
+        if !ends_before(&sets[place - 1], &sets[place]) {
+            return false;
+        }
+    }
+    true
+}
+
+/// Whether two of some sets have a common address.
+///
+/// Sorted by their bases, sets without holes that have none stand in a row. Only others are compared pair by pair.
+pub fn some_overlap(sets: Items<AddressSet>) -> bool
+    ensures { result ≡ spec.has_overlap sets }
+{
+    let mut sorted = sets.into_vec();
+    sorted.sort_unstable_by_key(|set| set.base());
+    let sorted = sorted.as_slice();
+    if stand_in_row(sorted) {
+        return false;
+    }
+    has_overlap(sorted)
 }
 
 fn add_sets(all: &mut Items<AddressSet>, sets: &[AddressSet]) -> Result<(), Memory>

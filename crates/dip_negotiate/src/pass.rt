@@ -1,4 +1,4 @@
-ghost use Rattle.std.specs.Prelude.{◌≡◌, ◌<◌, ◌^◌, ℕ, List, Result, Ok, length, map, replicate, slice_get, slice_set, IfOk, IfErr, OnOk, [], ◌++◌};
+ghost use Rattle.std.specs.Prelude.{◌≡◌, ◌+◌, ◌<◌, ◌^◌, ℕ, List, Result, Ok, length, map, replicate, slice_get, slice_set, IfOk, IfErr, OnOk, [], ◌++◌};
 ghost use Rattle.dip_graph.specs.declared.design.NodeEntry.{NodeEntry};
 ghost use Rattle.dip_graph.specs.declared.edges.Edge.{Edge};
 ghost use Rattle.dip_rule.specs.Stated.{Answers, StatedRule, stated_rule};
@@ -42,6 +42,15 @@ pub trait Negotiated: Duplicate {
 
     ghost unknown: { Self };
 
+    ghost count: { Self → ℕ };
+
+    /// How many masters or slaves the ports of one pass have at most, all edges together.
+    const MOST_ENTRIES: usize;
+
+    /// How many masters or slaves the port has.
+    fn entries(&self) -> usize
+        ensures { result ≡ count self.now };
+
     /// What stands on an edge before its port is known.
     fn unknown(alloc: Global) -> Self
         ensures { result ≡ unknown };
@@ -78,6 +87,16 @@ impl Negotiated for DownPort {
 
     ghost unknown = { spec.no_masters };
 
+    ghost count = { λ port. length port.masters };
+
+    // An edge with more than 1,024 masters fails check 13, since all ids are below 1,024. So an accepted design, which
+    // has at most 1,024 edges, has no more.
+    const MOST_ENTRIES: usize = 1_048_576;
+
+    fn entries(&self) -> usize {
+        self.masters.len()
+    }
+
     fn unknown(alloc: Global) -> DownPort {
         DownPort {
             masters: Items::new(alloc),
@@ -110,6 +129,17 @@ impl Negotiated for UpPort {
     ghost pass = { spec.up_pass };
 
     ghost unknown = { spec.no_slaves };
+
+    ghost count = { λ port. length port.slaves };
+
+    // Where an edge shows a port of a sink twice, check 14 fails, and each port of a sink has an edge of its own. So in an
+    // accepted design of at most 1,024 edges at most 512 edges show up to 512 slaves, and 512 one each: about half of
+    // this.
+    const MOST_ENTRIES: usize = 524_288;
+
+    fn entries(&self) -> usize {
+        self.slaves.len()
+    }
 
     fn unknown(alloc: Global) -> UpPort {
         UpPort {
@@ -205,7 +235,16 @@ fn unknowns<P: Negotiated>(alloc: Global, count: usize) -> Result<Vec<P>, Memory
     Ok(ports)
 }
 
+// What is left of the room of a pass that keeps this port too.
+fn room_after<P: Negotiated>(room: usize, port: &P) -> Result<usize, Memory>
+    ensures { IfOk result (λ left. left + P.count port.now ≡ room) }
+{
+    room.checked_sub(port.entries()).ok_or(Memory)
+}
+
 /// The ports of all edges after some steps, in each of which one edge's port is made.
+///
+/// Where they would have more than `MOST_ENTRIES` masters or slaves, it answers `Memory`.
 pub fn pass<P: Negotiated>(
     alloc: Global,
     rules: &Rules,
@@ -224,9 +263,13 @@ pub fn pass<P: Negotiated>(
         edges.now) P.unknown) steps.now)) }
 {
     let mut ports = unknowns(alloc, edges.len())?;
+    let mut room = P::MOST_ENTRIES;
     for step in steps {
         match stated(alloc, rules, nodes, edges, &step.edge, ports.as_slice()) {
-            Ok(port) => put(&mut ports, step.number, port),
+            Ok(port) => {
+                room = room_after(room, &port)?;
+                put(&mut ports, step.number, port);
+            }
             Err(RuleFault::Memory) => return Err(PassFault::Memory),
             Err(RuleFault::Refused(number)) => {
                 return Err(PassFault::Refused {

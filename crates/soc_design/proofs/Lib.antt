@@ -2,3 +2,4 @@ pub mod Counting
 pub mod Failing
 pub mod Naming
 pub mod Stating
+pub mod Order

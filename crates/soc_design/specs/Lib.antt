@@ -2,3 +2,4 @@ pub mod Shape
 pub mod Stated
 pub mod Reading
 pub mod Standing
+pub mod Order

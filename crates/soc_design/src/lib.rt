@@ -1,6 +1,7 @@
 //! Reads design files: the first check that a file fails, or the design that it states.
 #![tactic(auto)]
 
+mod laws;
 mod limits;
 mod names;
 mod nodes;
@@ -8,6 +9,7 @@ mod read;
 mod shape;
 mod tables;
 
+pub use laws::file_order_law;
 pub use read::read_design;
 
 #[cfg(test)]

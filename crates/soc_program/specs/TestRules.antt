@@ -1,5 +1,5 @@
 -- What the rules that the tests hand in state.
-use Rattle.std.specs.Prelude.{ℕ, List, [], ◌∷◌, map, Result, Ok, Err}
+use Rattle.std.specs.Prelude.{ℕ, List, [], ◌∷◌, map, Option, Some, None, Result, Ok, Err}
 use Rattle.std.specs.List.{flat_map}
 use Rattle.dip_sets.specs.SizeRanges.{size_range, meet}
 use Rattle.tl_params.specs.declared.ops.Ops.{Ops}
@@ -38,3 +38,8 @@ narrow_slaves slaves = map narrow_slave slaves
 abbrev pub narrow_up : StatedAnswer UpPort
 narrow_up args [] = Err 9
 narrow_up args (port ∷ ports) = Ok (record { slaves = narrow_slaves port.slaves; beat = port.beat })
+
+-- this port, whatever comes, and a refusal with 9 where there is none
+abbrev pub given_port : {P : Type 0} → Option P → StatedAnswer P
+given_port None args ports = Err 9
+given_port (Some port) args ports = Ok port

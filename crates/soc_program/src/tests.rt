@@ -197,6 +197,13 @@ fn agrees_across_nodes(rt: HostRuntime) -> Result<(), Fail> {
             {to = \"x\", from = \"core\", kind = \":=*\"}, {to = \"ram\", from = \"x\"}",
             "refused 9 0\n",
         ),
+        (
+            2,
+            "{name = \"x\", kind = \"buffer\"}, {name = \"rom\", kind = \"sink\", beat = 8,
+            addresses = [[[0x2000, 0xfff], [0x2800, 0x7ff]]], supports = {get = [1, 8]}}",
+            "{to = \"x\", from = \"core\"}, {to = \"ram\", from = \"x\"}, {to = \"rom\", from = \"core\"}",
+            "refused 14 2\n",
+        ),
     ] {
         let text = chip(alloc, ports, between, binds)?;
         let mut out = MemOut::new(alloc, 300);

@@ -1,4 +1,4 @@
-use Rattle.std.proofs.Common.{◌≡◌, ◌++◌, ◌==◌, ◌||◌, drop}
+use Rattle.std.proofs.Common.{◌≡◌, ◌++◌, ◌==◌, drop}
 use Rattle.dip_lists.specs.First.{places}
 use Rattle.dip_checks.proofs.fit.edges_from.Given as goal
 
