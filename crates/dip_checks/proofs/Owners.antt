@@ -60,7 +60,7 @@ one_place (s ∷ slaves) (suc place) (suc other) a b x apart here there h k =
     ap (λ n. suc n) (one_place slaves place other a b x (back_pairs Disjoint s.addresses (sets_of slaves) apart) here there h k)
 
 pub one_owner : OneOwnerLaw
-one_owner up apart address place other owns same = one_place up.slaves place other owns.slave same.slave address apart owns.here same.here owns.has same.has
+one_owner up apart address place other owns same = one_place up.slaves place other owns.0 same.0 address apart owns.1 same.1 owns.2 same.2
 
 pub one_owner_each : (ups : List UpPort) → All HasDisjointSets ups → All HasOneOwnerEach ups
 one_owner_each ups apart = All-weaker HasDisjointSets HasOneOwnerEach one_owner ups apart

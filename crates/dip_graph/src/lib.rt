@@ -17,4 +17,5 @@ pub use edges::{Edge, Edges};
 pub use fault::Fault;
 pub use kinds::kind_at;
 pub use laws::order_law;
-pub use ordering::{Numbers, OrderFault, canonical_order, order};
+pub use ordering::{OrderFault, canonical_order, order};
+pub use tl_params::Numbers;

@@ -6,9 +6,7 @@ use crate::{BindEntry, Design, NodeEntry};
 use dip_lists::{Items, Memory};
 use std::alloc::Global;
 use thiserror::Error;
-
-/// Numbers of nodes or of edges.
-pub type Numbers = Items<u32>;
+use tl_params::Numbers;
 
 /// Why nodes have no order.
 #[derive(Clone, Copy, Debug, PartialEq, Eq, Error)]

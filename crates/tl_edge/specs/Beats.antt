@@ -3,7 +3,7 @@ use Rattle.std.specs.Prelude.{ℕ, ◌+◌, ◌*◌, ◌/◌, ◌%◌, ◌^◌, 
 use Rattle.std.specs.Int.{from_bool}
 use Rattle.std.specs.List.{range_with_len}
 use Rattle.tl_params.specs.declared.ops.Op.{Op}
-use Rattle.tl_edge.specs.declared.message.Ack.{Ack}
+use Rattle.tl_params.specs.declared.ops.Ack.{Ack}
 use Rattle.tl_edge.specs.declared.message.Request.{Request}
 use Rattle.tl_edge.specs.declared.message.Response.{Response}
 use Rattle.tl_edge.specs.declared.beat.ABeat.{ABeat}

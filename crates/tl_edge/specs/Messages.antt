@@ -2,8 +2,8 @@
 use Rattle.std.specs.Prelude.{ℕ, ◌≡◌, ◌≤◌, ◌<◌, ◌%◌, List, All, ◌^◌, ◌==◌, nat_lt, Bool, true, false, cond, length}
 use Rattle.tl_params.specs.declared.ops.Op.{Op}
 use Rattle.tl_params.specs.declared.ops.Op.TheVariants.{PutFull, PutPartial, Arithmetic, Logical, Get, Intent}
-use Rattle.tl_edge.specs.declared.message.Ack.{Ack}
-use Rattle.tl_edge.specs.declared.message.Ack.TheVariants.{Ack as Plain, AckData, HintAck}
+use Rattle.tl_params.specs.declared.ops.Ack.{Ack}
+use Rattle.tl_params.specs.declared.ops.Ack.TheVariants.{Ack as Plain, AckData, HintAck}
 use Rattle.tl_edge.specs.declared.message.Request.{Request}
 use Rattle.tl_edge.specs.declared.message.Response.{Response}
 

@@ -1,6 +1,5 @@
-use crate::Ack;
 use dip_lists::Items;
-use tl_params::Op;
+use tl_params::{Ack, Op};
 
 /// What channel A carries in one clock cycle.
 #[derive(Clone, Copy, Debug, PartialEq, Eq)]

@@ -16,11 +16,11 @@ pub use beat::{ABeat, ABeats, DBeat, DBeats, Event, History, Tag, Tags, What};
 pub use bundle::{Bundle, bundle_of};
 pub use laws::{bits_law, heads_law, join_law, lanes_law, prefix_law, same_law, spelling_law};
 pub use message::{
-    Ack, Bytes, Flags, Request, Requests, Response, Responses, answer_of, brings_data, has_data,
+    Bytes, Flags, Request, Requests, Response, Responses, answer_of, brings_data, has_data,
     has_flags, has_param,
 };
 pub use plan::{
-    Leaf, Leaves, Numbers, Plan, PlanEdge, PlanEdges, PlanPort, PlanPorts, sound_plan_law,
+    Leaf, Leaves, Plan, PlanEdge, PlanEdges, PlanPort, PlanPorts, sound_plan_law,
 };
 pub use request::{a_beats, beats};
 pub use response::d_beats;

@@ -2,18 +2,7 @@ ghost use Rattle.std.specs.Prelude.{◌≡◌};
 ghost use Rattle.tl_edge.specs.Messages as spec;
 
 use dip_lists::Items;
-use tl_params::Op;
-
-/// A response of channel D (SiFive TileLink Specification 1.8, chapters 6 and 7).
-#[derive(Clone, Copy, Debug, PartialEq, Eq)]
-pub enum Ack {
-    /// To both writes.
-    Ack,
-    /// To reads and atomics: with data.
-    AckData,
-    /// To intents.
-    HintAck,
-}
+use tl_params::{Ack, Op};
 
 /// A flag for each byte of a message.
 pub type Flags = Items<bool>;

@@ -3,10 +3,7 @@ ghost use Rattle.tl_edge.specs.ExamplePlan.{SomePlanIsSound};
 use crate::Bundle;
 use dip_lists::Items;
 use dip_sets::Name;
-use tl_params::{Args, Policy, Slaves, Template};
-
-/// Numbers of edges.
-pub type Numbers = Items<u32>;
+use tl_params::{Args, Numbers, Policy, Slaves, Template};
 
 /// A part of the network: what is built for an adapter's port or for a nexus.
 #[derive(Drop)]

@@ -5,9 +5,10 @@ ghost use Rattle.tl_edge.specs.Messages as messages;
 
 use crate::lanes::{Lanes, data_beats, on_bytes, part};
 use crate::message::brings_data;
-use crate::{Ack, DBeat, DBeats, Request, Response};
+use crate::{DBeat, DBeats, Request, Response};
 use dip_lists::{Items, Memory};
 use std::alloc::Global;
+use tl_params::Ack;
 
 // How many beats a response of a size takes.
 fn response_beats(op: Ack, size: u32, width: u32) -> u32

@@ -1,14 +1,14 @@
 ghost use Rattle.std.specs.Prelude.{◌≡◌, ◌≤◌, ◌%◌, ◌^◌, [], length, IfOk};
 
 use crate::{
-    ABeats, Ack, Bytes, DBeats, Flags, Request, Response, a_beats, answer_of, beats, bundle_of,
+    ABeats, Bytes, DBeats, Flags, Request, Response, a_beats, answer_of, beats, bundle_of,
     d_beats, has_param,
 };
 use dip_lists::{Few, Items, Memory};
 use dip_sets::{AddressSet, IdRange, Sizes};
 use std::alloc::Global;
 use std::test::Fail;
-use tl_params::{DownPort, Master, Op, Ops, Slave, UpPort};
+use tl_params::{Ack, DownPort, Master, Op, Ops, Slave, UpPort};
 
 fn bytes_of(alloc: Global, bytes: &[u8]) -> Result<Bytes, Memory>
     ensures { IfOk result (λ list. list ≡ bytes.now) }

@@ -4,7 +4,7 @@
 mod ops;
 mod ports;
 
-pub use ops::{Args, Op, Ops, Policy, Template};
+pub use ops::{Ack, Args, Numbers, Op, Ops, Policy, Template};
 pub use ports::{
     AddressLists, Addresses, DownPort, DownPorts, Master, Masters, Slave, Slaves, UpPort, UpPorts,
     copy_down, copy_up, largest_end, owner, owner_law, same_down, same_up,

@@ -15,6 +15,17 @@ pub enum Op {
     Intent,
 }
 
+/// A response of channel D (SiFive TileLink Specification 1.8, chapters 6 and 7).
+#[derive(Clone, Copy, Debug, PartialEq, Eq)]
+pub enum Ack {
+    /// To both writes.
+    Ack,
+    /// To reads and atomics: with data.
+    AckData,
+    /// To intents.
+    HintAck,
+}
+
 /// The transfer sizes of each operation, none where a port doesn't have it.
 #[derive(Clone, Copy, Debug, PartialEq, Eq)]
 pub struct Ops {
@@ -89,6 +100,9 @@ impl Template {
         matches!(*self, Template::Xbar)
     }
 }
+
+/// Numbers of nodes or of edges.
+pub type Numbers = Items<u32>;
 
 /// The numbers that a design states for a node's rule.
 pub type Args = Items<u32>;
