@@ -109,8 +109,8 @@ fn joined(builder: &mut Builder, slots: Slots) -> Result<Wire, Memory>
     Ok(next)
 }
 
-/// The next slots where a queue that holds these is told this: it is pushed only where there is room, and popped only where
-/// there is a first item.
+/// The next slots where a queue that holds these is told this: it is pushed only where there is room, and
+/// popped only where there is a first item.
 #[tactic(auto, using(crate::proofs::Steps::steps, crate::proofs::Steps::bit_made))]
 fn next_slots(builder: &mut Builder, slots: Slots, told: Told) -> Result<Slots, Memory>
     requires flags { IsBit builder.old slots.valid × IsBit builder.old slots.full }
@@ -209,7 +209,8 @@ fn holds(register: u64, held: Held) -> bool {
     }
 }
 
-/// One of all ways to tell a queue something in some cycles, four bits a cycle: a reset, a push, its item and a pop.
+/// One of all ways to tell a queue something in some cycles, four bits a cycle: a reset, a push, its item
+/// and a pop.
 fn check_run(rt: &impl Abort, alloc: Global, netlist: &Netlist, run: u64) -> Result<(), Fail> {
     let mut held = EMPTY;
     let mut register = 0;

@@ -91,6 +91,7 @@ fn mask(width: u32) -> u64 {
         .unwrap_or(0)
 }
 
+/// The value of a net.
 pub fn at(values: &[u64], net: u64) -> u64 {
     values.get(net as usize).copied().unwrap_or(0)
 }

@@ -19,8 +19,6 @@ pub use message::{
     Bytes, Flags, Request, Requests, Response, Responses, answer_of, brings_data, has_data,
     has_flags, has_param,
 };
-pub use plan::{
-    Leaf, Leaves, Plan, PlanEdge, PlanEdges, PlanPort, PlanPorts, sound_plan_law,
-};
+pub use plan::{Leaf, Leaves, Plan, PlanEdge, PlanEdges, PlanPort, PlanPorts, sound_plan_law};
 pub use request::{a_beats, beats};
 pub use response::d_beats;

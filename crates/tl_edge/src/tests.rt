@@ -1,8 +1,8 @@
 ghost use Rattle.std.specs.Prelude.{◌≡◌, ◌≤◌, ◌%◌, ◌^◌, [], length, IfOk};
 
 use crate::{
-    ABeats, Bytes, DBeats, Flags, Request, Response, a_beats, answer_of, beats, bundle_of,
-    d_beats, has_param,
+    ABeats, Bytes, DBeats, Flags, Request, Response, a_beats, answer_of, beats, bundle_of, d_beats,
+    has_param,
 };
 use dip_lists::{Few, Items, Memory};
 use dip_sets::{AddressSet, IdRange, Sizes};

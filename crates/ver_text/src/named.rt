@@ -8,8 +8,8 @@ use net_cells::{Port, Ports};
 use std::alloc::Global;
 use std::marker::Model;
 
-/// Ports with names of their own, which are found without going through all of them. Contracts see the list of
-/// the ports.
+/// Ports with names of their own, which are found without going through all of them. Contracts see the list
+/// of the ports.
 #[derive(Drop)]
 pub struct NamedPorts {
     ports: Vec<Port>,
