@@ -1,12 +1,12 @@
 -- The example of a plan is sound.
-use Rattle.std.proofs.Common.{ℕ, zero, suc, ◌+◌, ◌<◌, ◌≤◌, ◌≡◌, ◌≢◌, ◌⊎◌, inl, inr, List, [], ◌∷◌, ◌++◌, length, Bool, true, false, All, AllPairs, IsTrue, cond, get_or, Option, Some, None, refl, sym, ap, subst, arith}
+use Rattle.std.proofs.Common.{ℕ, zero, suc, ◌<◌, ◌≤◌, ◌≡◌, ◌⊎◌, inl, inr, List, [], ◌∷◌, ◌++◌, length, true, All, AllPairs, IsTrue, get_or, Some, None, refl, sym, ap, arith}
 use Rattle.std.specs.Prelude.{Contains, codes}
 use Rattle.std.specs.Int.Count.{ones, count_trailing_zeros}
 use Rattle.std.proofs.lemmas.List.Elements.{All-cons, All-nil}
 use Rattle.std.proofs.lemmas.List.Kept.{AllPairs-cons}
-use Rattle.dip_sets.specs.SizeRanges.{SizeRange, size_range, no_sizes, is_size_range}
+use Rattle.dip_sets.specs.SizeRanges.{SizeRange, size_range, is_size_range}
 use Rattle.dip_sets.specs.Assignments.{rounded}
-use Rattle.dip_sets.specs.Sets.{Pattern, IsSet, Disjoint, alignment}
+use Rattle.dip_sets.specs.Sets.{IsSet, Disjoint, alignment}
 use Rattle.dip_sets.proofs.Lists.{pairs_none}
 use Rattle.dip_sets.proofs.Members.{disjoint_from_test}
 use Rattle.tl_params.specs.declared.ops.Op.{Op}
@@ -17,11 +17,9 @@ use Rattle.tl_params.specs.declared.ports.Slave.{Slave}
 use Rattle.tl_params.specs.Operations.{sizes_of}
 use Rattle.tl_params.specs.Arguments.{is_width}
 use Rattle.tl_edge.specs.declared.plan.Leaf.{Leaf}
-use Rattle.tl_edge.specs.declared.plan.PlanEdge.{PlanEdge}
 use Rattle.tl_edge.specs.declared.plan.PlanPort.{PlanPort}
-use Rattle.tl_edge.specs.Bundles.{bundle}
 use Rattle.tl_edge.specs.Plans.{given_edges, taken_edges, edge_at, ins_of, outs_of, beat_of}
-use Rattle.tl_edge.specs.SoundPlans.{IsSound, IsSoundEdge, IsAligned, IsSmall, HasRanges, HasShape, Carries, Shows, pieces_of, BeatsAgree, ArgumentsAgree, MovesIds, LeavesIds, IsItsSlave, AreApart, IsShort, sets_of}
+use Rattle.tl_edge.specs.SoundPlans.{IsSound, IsSoundEdge, IsAligned, IsSmall, HasRanges, HasShape, Carries, Shows, MovesIds, LeavesIds, IsItsSlave, AreApart, IsShort, sets_of}
 use Rattle.tl_edge.specs.ExamplePlan.{example, edge, port, memory, device, reads_and_writes, from_core, to_crossbar, to_buffer, to_memory, to_width, to_fragmenter, to_device, shrinker, crossbar, buffer, width_adapter, fragmenter, core, ram, uart}
 use Rattle.tl_edge.proofs.Ways.{each_once, no_way_back, Rises}
 

@@ -1,6 +1,6 @@
 -- A sound plan with a leaf of each template: one source, whose ids a shrinker makes two, and behind a crossbar a memory on a bus of eight
 -- bytes and a device on a bus of four.
-use Rattle.std.specs.Prelude.{ℕ, List, [], ◌∷◌, ◌++◌, codes}
+use Rattle.std.specs.Prelude.{ℕ, List, [], ◌∷◌, codes}
 use Rattle.dip_sets.specs.SizeRanges.{SizeRange, size_range, no_sizes}
 use Rattle.tl_params.specs.declared.ops.Ops.{Ops}
 use Rattle.tl_params.specs.declared.ops.Policy.TheVariants.{Lowest}
