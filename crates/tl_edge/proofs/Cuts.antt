@@ -1,10 +1,9 @@
 -- The first of some beats in a row.
-use Rattle.std.proofs.Common.{ℕ, zero, suc, ◌≡◌, ◌+◌, ◌<◌, ◌≤◌, ◌⊎◌, inl, inr, List, [], ◌∷◌, ◌++◌, length, take, drop, Some, ap, sym, ◌∙◌, refl, arith}
-use Rattle.std.specs.Prelude.{slice_get}
+use Rattle.std.proofs.Common.{suc, ◌≡◌, inl, inr, List, [], ◌∷◌, ◌++◌, length, take, drop, ap, sym, ◌∙◌, refl, arith}
 use Rattle.std.specs.List.{flat_map}
 use Rattle.std.proofs.lemmas.Bool.{cases_lt}
 use Rattle.std.proofs.lemmas.List.{append_assoc, take_at, drop_at, take-append-le, drop-append-le, take-append-drop, length-append, nil_from_length}
-use Rattle.tl_edge.specs.Spelling.{IsFront, IsCut, PrefixLaw}
+use Rattle.tl_edge.specs.Spelling.{IsCut, PrefixLaw}
 
 cut : {A B : Type 0} (beats_of : A → List B) (messages : List A) (beats rest : List B) → beats ++ rest ≡ flat_map beats_of messages → IsCut beats_of messages beats
 cut beats_of [] beats rest e =
