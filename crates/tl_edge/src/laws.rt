@@ -33,8 +33,8 @@ pub fn spelling_law()
     ensures { SpellingLaw }
 {}
 
-/// The first of some beats in a row are those of the first messages, followed at most by the first beats of the
-/// next one.
+/// The first of some beats in a row are those of the first messages, followed at most by the first beats of
+/// the next one.
 pub fn prefix_law()
     ensures { PrefixLaw }
 {}
