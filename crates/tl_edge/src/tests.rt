@@ -210,6 +210,48 @@ fn writes_in_part(rt: HostRuntime) -> Result<(), Fail> {
 }
 
 #[test]
+fn two_beats(rt: HostRuntime) -> Result<(), Fail> {
+    let bytes = [0, 1, 2, 3, 4, 5, 6, 7, 8, 9, 10, 11, 12, 13, 14, 15];
+    let whole = Request {
+        op: Op::PutFull,
+        param: 0,
+        size: 4,
+        source: 1,
+        address: 0x1000,
+        mask: Items::new(rt.alloc()),
+        payload: bytes_of(rt.alloc(), &bytes)?,
+    };
+    let sent = a_beats(rt.alloc(), 8, &whole)?;
+    assert!(rt; carry(&sent, &whole, &[(0xff, RISING[0]), (0xff, RISING[1])]));
+    let last_half = Request {
+        op: Op::PutPartial,
+        param: 0,
+        size: 4,
+        source: 0,
+        address: 0x1000,
+        mask: flags_of(
+            rt.alloc(),
+            &[
+                false, false, false, false, false, false, false, false, true, true, true, true,
+                true, true, true, true,
+            ],
+        )?,
+        payload: bytes_of(rt.alloc(), &bytes)?,
+    };
+    let sent = a_beats(rt.alloc(), 8, &last_half)?;
+    assert!(rt; carry(&sent, &last_half, &[(0, RISING[0]), (0xff, RISING[1])]));
+    let done = Response {
+        op: Ack::Ack,
+        size: 4,
+        source: 0,
+        denied: false,
+        payload: Items::new(rt.alloc()),
+    };
+    assert!(rt; bring(&d_beats(rt.alloc(), 8, &last_half, &done)?, &done, &[0]));
+    Ok(())
+}
+
+#[test]
 fn denied_atomic(rt: HostRuntime) -> Result<(), Fail> {
     let sum = Request {
         op: Op::Arithmetic,
