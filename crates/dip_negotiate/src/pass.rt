@@ -89,8 +89,8 @@ impl Negotiated for DownPort {
 
     ghost count = { λ port. length port.masters };
 
-    // An edge with more than 1,024 masters fails check 13, since all ids are below 1,024. So an accepted design, which
-    // has at most 1,024 edges, has no more.
+    // An edge with more than 1,024 masters fails check 13, since all ids are below 1,024. So an accepted
+    // design, which has at most 1,024 edges, has no more.
     const MOST_ENTRIES: usize = 1_048_576;
 
     fn entries(&self) -> usize {
@@ -132,9 +132,9 @@ impl Negotiated for UpPort {
 
     ghost count = { λ port. length port.slaves };
 
-    // Where an edge shows a port of a sink twice, check 14 fails, and each port of a sink has an edge of its own. So in an
-    // accepted design of at most 1,024 edges at most 512 edges show up to 512 slaves, and 512 one each: about half of
-    // this.
+    // Each slave is a port of a sink. Where an edge shows one twice, check 14 fails, and each has an edge of
+    // its own with one slave. So an accepted design, which has at most 1,024 edges, has at most about half of
+    // this: 512 edges with 512 slaves, and 512 with one.
     const MOST_ENTRIES: usize = 524_288;
 
     fn entries(&self) -> usize {

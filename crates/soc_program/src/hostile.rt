@@ -149,7 +149,8 @@ name = \"chip\"
 node = [
 {{name = \"core\", kind = \"source\", ids = 1, emits = {{get = [1, 8]}}}},
 {{name = \"x\", kind = \"hostile\"}},
-{{name = \"ram\", kind = \"sink\", beat = 8, addresses = [[[0x80000000, 0xffff]]], supports = {{get = [1, 8]}}}}{nodes}]
+{{name = \"ram\", kind = \"sink\", beat = 8, addresses = [[[0x80000000, 0xffff]]],
+supports = {{get = [1, 8]}}}}{nodes}]
 bind = [{{to = \"x\", from = \"core\"}}, {binds}]
 "
     )?;
@@ -222,15 +223,16 @@ fn refuses_ids_that_fall(rt: HostRuntime) -> Result<(), Fail> {
 fn sees_a_hidden_sink(rt: HostRuntime) -> Result<(), Fail> {
     let alloc = rt.alloc();
     let rules = rules_with!(alloc, Template::Xbar, Some(TRUE), Some(TRUE));
-    let rom =
-        ", {name = \"rom\", kind = \"sink\", beat = 8, addresses = [[[0x1000, 0xfff]]], supports = {get = [1, 8]}}";
+    let rom = ", {name = \"rom\", kind = \"sink\", beat = 8, addresses = [[[0x1000, 0xfff]]],
+        supports = {get = [1, 8]}}";
     let binds = "{to = \"ram\", from = \"x\"}, {to = \"rom\", from = \"x\"}";
     let out = map_by(alloc, &rules, rom, binds)?;
     assert!(rt; out.bytes() == b"refused 17 1\n".as_slice());
     Ok(())
 }
 
-// Crossbars and shrinkers in turn, each step bound twice, so that slaves double from each crossbar to the one before.
+// Crossbars and shrinkers in turn, each step bound twice, so that slaves double from each crossbar to the one
+// before.
 fn doubling(alloc: Global, steps: u32) -> Result<String, Fail> {
     let mut nodes = format!(in alloc; "{{name = \"x0\", kind = \"xbar\"}}")?;
     let mut binds = format!(in alloc;
@@ -239,7 +241,8 @@ fn doubling(alloc: Global, steps: u32) -> Result<String, Fail> {
     for step in 0..steps {
         let next = step + 1;
         let node = format!(in alloc;
-            ",\n{{name = \"h{next}\", kind = \"shrinker\", args = [1]}},\n{{name = \"x{next}\", kind = \"xbar\"}}"
+            ",\n{{name = \"h{next}\", kind = \"shrinker\", args = [1]}},
+            {{name = \"x{next}\", kind = \"xbar\"}}"
         )?;
         nodes.push_str(node.as_str())?;
         let twice = format!(in alloc;

@@ -110,6 +110,19 @@ fn names_the_first_failing_check(rt: HostRuntime) -> Result<(), Fail> {
             bind,
             "refused 14 0\n",
         ),
+        (
+            "1",
+            "[[[0x1010, 0xf0f], [0x1000, 0xf0f]]]",
+            bind,
+            "design one edges 1\nport core.0 ids 1 beat 8\n  1010 f0f ram.0 get=1-8 put_full=1-8\n  \
+             1000 f0f ram.0 get=1-8 put_full=1-8\n",
+        ),
+        (
+            "1",
+            "[[[0x1000, 0xf0f], [0x1100, 0xf]]]",
+            bind,
+            "refused 14 0\n",
+        ),
         ("1", "[[[0x80000000, 0x3]]]", bind, "refused 15 0\n"),
         (
             "1",
