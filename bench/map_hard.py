@@ -1,9 +1,10 @@
 #!/usr/bin/env python3
-"""Times `map` on two designs that are meant to be hard, and prints what it answers and takes.
+"""Times `map` on designs that are meant to be hard, and prints what it answers and takes.
 
     bench/map_hard.py
 
-`wide` has many address sets on many edges, `doubling` asks for more slaves than any machine holds.
+`wide` has many address sets on many edges, `growing` other sets on each edge, and `doubling` asks for more slaves than
+any machine holds.
 """
 
 import resource
@@ -25,16 +26,23 @@ def design(nodes, binds):
     return 'version = 1\nname = "hard"\nnode = [%s]\nbind = [%s]\n' % (",\n".join(nodes), ",\n".join(binds))
 
 
-def wide(crossbars=117, sinks=8):
-    """Two sources, crossbars in a row, and sinks of 64 ports with 16 sets each behind the last of them."""
+def sink(name, first, ports):
+    """A sink whose ports have 16 sets each; the first port is this one of all."""
+    sets = []
+    for port in range(first, first + ports):
+        sets.append("[%s]" % ",".join("[%d, 15]" % ((port * 16 + n) * 16) for n in range(16)))
+    return '{name = "%s", kind = "sink", beat = 8, addresses = [%s], supports = {get = [1, 8]}}' % (name, ",".join(sets))
+
+
+def wide(crossbars=117, sinks=8, own=0):
+    """Two sources, crossbars in a row, the first with sinks of their own, and sinks of 64 ports behind the last of them."""
     nodes = [SOURCE % 0, SOURCE % 1] + ['{name = "x%d", kind = "xbar"}' % k for k in range(crossbars)]
     binds = [bind("x0", "s0"), bind("x0", "s1")] + [bind("x%d" % (k + 1), "x%d" % k) for k in range(crossbars - 1)]
+    for k in range(own):
+        nodes.append(sink("q%d" % k, k, 1))
+        binds.append(bind("q%d" % k, "x%d" % k))
     for k in range(sinks):
-        ports = []
-        for port in range(64):
-            first = (k * 64 + port) * 16
-            ports.append("[%s]" % ",".join("[%d, 15]" % ((first + n) * 16) for n in range(16)))
-        nodes.append('{name = "r%d", kind = "sink", beat = 8, addresses = [%s], supports = {get = [1, 8]}}' % (k, ",".join(ports)))
+        nodes.append(sink("r%d" % k, own + k * 64, 64))
         binds.append(bind("r%d" % k, "x%d" % (crossbars - 1), ":*="))
     return design(nodes, binds)
 
@@ -69,6 +77,7 @@ def main():
     if not PROGRAM.exists():
         subprocess.run([TOP / "soc", "map", TOP / "examples/one.toml"], stdout=subprocess.DEVNULL, check=True)
     run("wide", wide())
+    run("growing", wide(crossbars=100, own=100))
     run("doubling", doubling())
 
 
