@@ -1,14 +1,14 @@
 -- A run on the bytes of a design, as the answer of the whole.
-use Rattle.std.proofs.Common.{ℕ, ◌≡◌, ◌≢◌, ◌⊎◌, inl, inr, List, Option, Some, None, refl, sym, ◌∙◌, ap, take, drop, length, [], ◌++◌}
+use Rattle.std.proofs.Common.{ℕ, ◌≡◌, ◌⊎◌, inl, inr, List, Option, Some, None, refl, sym, ◌∙◌, ap, take, drop, length, []}
 use Rattle.dip_lists.specs.First.{Failure, failure_of}
-use Rattle.dip_io.specs.Outside.{Told, OutSeen, Rose, AreFirst, LoadsRose, Writes}
+use Rattle.dip_io.specs.Outside.{Told, AreFirst, LoadsRose, Writes}
 use Rattle.soc_report.specs.Lines.{line_of}
 use Rattle.soc_report.specs.declared.status.Status.{Status}
 use Rattle.soc_report.specs.declared.status.Status.TheVariants.{Done, Refused, Usage, ReadFailed, WriteFailed, Memory}
 use Rattle.soc_program.specs.Words.{design_named}
-use Rattle.soc_program.specs.Designs.{first_failure, answer_of, text_of, map_of}
+use Rattle.soc_program.specs.Designs.{first_failure, answer_of, text_of}
 use Rattle.soc_program.specs.Printing.{Printed, RunsOn}
-use Rattle.soc_program.specs.Answers.{World, IsLoaded, Due, design, read_failed, Answered, Completed, most_loaded}
+use Rattle.soc_program.specs.Answers.{World, IsLoaded, design, read_failed, Answered, Completed, most_loaded}
 use Rattle.dip_rule.specs.Stated.{StatedRule}
 
 -- what was appended to nothing

@@ -1,7 +1,7 @@
 -- The checks of a file's bytes before those of the design that it states.
-use Rattle.std.proofs.Common.{◌≡◌, ◌∙◌, ap, sym, subst, refl, None, List, ℕ, Option, Some, Result, Ok, Err}
+use Rattle.std.proofs.Common.{◌≡◌, ◌∙◌, ap, sym, subst, None, List, ℕ, Option, Some, Result, Ok, Err}
 use Rattle.std.specs.Prelude.{IfOk, IfErr}
-use Rattle.dip_lists.specs.First.{Check, first_failing}
+use Rattle.dip_lists.specs.First.{first_failing}
 use Rattle.dip_graph.specs.declared.design.Design.{Design}
 use Rattle.dip_graph.specs.declared.fault.Fault.{Fault}
 use Rattle.dip_graph.specs.Faults.{IsFaultOf}

@@ -1,7 +1,7 @@
 -- The answers of a run of `map`: when each may come, what was printed, and what stands afterwards.
-use Rattle.std.specs.Prelude.{ℕ, ◌≡◌, ◌≢◌, ◌⊎◌, List, take, Option, Some, None}
+use Rattle.std.specs.Prelude.{ℕ, ◌≡◌, ◌≢◌, ◌⊎◌, List, take, Some, None}
 use Rattle.dip_lists.specs.First.{failure_of}
-use Rattle.dip_io.specs.Outside.{Told, FilesSeen, OutSeen, Rose, LoadsRose, AreFirst, Writes, WritesPart}
+use Rattle.dip_io.specs.Outside.{FilesSeen, OutSeen, Rose, LoadsRose, AreFirst, Writes, WritesPart}
 use Rattle.dip_rule.specs.Stated.{StatedRule}
 use Rattle.soc_report.specs.declared.status.Status.{Status}
 use Rattle.soc_report.specs.declared.status.Status.TheVariants.{Done, Refused, Usage, ReadFailed, WriteFailed, Memory}
