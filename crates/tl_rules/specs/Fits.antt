@@ -1,5 +1,5 @@
 -- Whether what is built for a node fits the ports of its edges: it can carry what they agree on.
-use Rattle.std.specs.Prelude.{ℕ, List, [], ◌∷◌, map, length, Bool, true, false, ◌&&◌, ◌||◌, ◌==◌, nat_lt, nat_le, cond, Option, Some, None, slice_get, unwrap_or}
+use Rattle.std.specs.Prelude.{ℕ, List, [], ◌∷◌, map, length, Bool, false, ◌&&◌, ◌==◌, nat_lt, nat_le, cond, Option, Some, None, slice_get, unwrap_or}
 use Rattle.std.specs.List.{list_all, flat_map}
 use Rattle.dip_sets.specs.SizeRanges.{SizeRange, size_range}
 use Rattle.tl_params.specs.Operations.{is_nexus}

@@ -1,5 +1,5 @@
 -- What fragmenters state. A fragmenter cuts gets and puts of more than a piece into pieces; atomics and intents pass whole.
-use Rattle.std.specs.Prelude.{ℕ, List, map, ◌==◌, nat_lt, cond, max, min, Ok}
+use Rattle.std.specs.Prelude.{ℕ, map, ◌==◌, nat_lt, cond, max, min, Ok}
 use Rattle.dip_sets.specs.SizeRanges.{SizeRange, size_range, has_size, meet}
 use Rattle.dip_rule.specs.Stated.{StatedAnswer}
 use Rattle.tl_params.specs.declared.ops.Ops.{Ops}
