@@ -101,13 +101,13 @@ behind R x xs h k d within = h zero (suc k) d (omega arith) (omega arith)
 rest_pairs : {X : Type 0} (R : X → X → Type 0) (x : X) (xs : List X) → AllPairs R (x ∷ xs) → AllPairs R xs
 rest_pairs R x xs h i j d before within = h (suc i) (suc j) d (omega arith) (omega arith)
 
-joined : {X : Type 0} (R : X → X → Type 0) (xs ys : List X) → AllPairs R xs → AllPairs R ys → All (λ x. All (R x) ys) xs → AllPairs R (xs ++ ys)
+pub joined : {X : Type 0} (R : X → X → Type 0) (xs ys : List X) → AllPairs R xs → AllPairs R ys → All (λ x. All (R x) ys) xs → AllPairs R (xs ++ ys)
 joined R [] ys p q across = q
 joined R (x ∷ xs) ys p q across =
     AllPairs-cons R x (xs ++ ys) (All-append (R x) xs ys (behind R x xs p) (All-head (λ a. All (R a) ys) x xs across))
     (joined R xs ys (rest_pairs R x xs p) q (All-tail (λ a. All (R a) ys) x xs across))
 
-lower_precede : (bound : ℕ) (xs ys : List Check) → All (λ c. c.number < bound) xs → All (λ c. bound ≤ c.number) ys → All (λ x. All (Precedes x) ys) xs
+pub lower_precede : (bound : ℕ) (xs ys : List Check) → All (λ c. c.number < bound) xs → All (λ c. bound ≤ c.number) ys → All (λ x. All (Precedes x) ys) xs
 lower_precede bound xs ys low high =
     All-weaker (λ c. c.number < bound) (λ c. All (Precedes c) ys)
     (λ c below. All-weaker (λ d. bound ≤ d.number) (Precedes c) (λ d above. inl (omega (arith, below, above))) ys high) xs low
@@ -211,3 +211,20 @@ file_order =
       some = λ bytes failure. first_law.some (file_checks bytes) failure (tree_in_order (tree_of bytes));
       none = λ bytes. first_law.none (file_checks bytes);
     }
+
+-- ---- their numbers are below those of a design's checks
+
+tree_low : (ms : Members) → All (λ c. c.number < 5) (tree_checks ms)
+tree_low ms =
+    All-append (λ c. c.number < 5) (shape_checks ms ++ limit_checks ms) (name_checks ms)
+    (All-append (λ c. c.number < 5) (shape_checks ms) (limit_checks ms)
+    (below 2 5 (shape_checks ms) (omega arith) (numbered 2 0 (shape_checks ms) (shape_in_turn ms)))
+    (below 3 5 (limit_checks ms) (omega arith) (numbered 3 0 (limit_checks ms) (limits_in_turn ms))))
+    (below 4 5 (name_checks ms) (omega arith) (numbered 4 1 (name_checks ms) (names_in_turn ms)))
+
+checks_low : (tree : Option Members) → All (λ c. c.number < 5) (checks_of_tree tree)
+checks_low None = All-cons (λ c. c.number < 5) (check 1 (0 ∷ [])) [] (omega arith) (All-nil (λ c. c.number < 5))
+checks_low (Some ms) = tree_low ms
+
+pub numbers_low : (bytes : List ℕ) → All (λ c. c.number < 5) (file_checks bytes)
+numbers_low bytes = checks_low (tree_of bytes)

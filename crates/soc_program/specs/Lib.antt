@@ -1,5 +1,6 @@
 pub mod Words
 pub mod Designs
+pub mod FirstOfAll
 pub mod Printing
 pub mod Answers
 pub mod TestRules

@@ -3,6 +3,7 @@
 
 #[cfg(test)]
 mod hostile;
+mod laws;
 #[cfg(test)]
 mod tests;
 mod top;
