@@ -3,3 +3,4 @@ pub mod Names
 pub mod Operators
 pub mod Paths
 pub mod Cycles
+pub mod Marked

@@ -1,3 +1,4 @@
 pub mod Rules
 pub mod Values
 pub mod Loops
+pub mod Marks

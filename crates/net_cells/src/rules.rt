@@ -1,12 +1,14 @@
 ghost use Rattle.std.specs.Prelude.{◌≡◌, ◌↔◌, ◌+◌, ◌-◌, ◌^◌, ◌<◌, ◌≤◌, IsTrue, All, drop, codes, length};
 ghost use Rattle.std.specs.Option.{option_copied};
-ghost use Rattle.std.specs.Prelude.{◌≢◌, AllPairs, Some, slice_get, map, take};
+ghost use Rattle.std.specs.Prelude.{◌≢◌, [], AllPairs, Some, slice_get, map, take, unwrap_or};
+ghost use Rattle.net_cells.specs.Marks as marks;
 ghost use Rattle.net_cells.specs.declared.netlist.Port.{Port};
 ghost use Rattle.net_cells.specs.declared.netlist.Reg.{Reg};
 ghost use Rattle.net_cells.specs.declared.netlist.Cell.{Cell};
 ghost use Rattle.net_cells.specs.declared.netlist.OutPort.{OutPort};
 ghost use Rattle.net_cells.specs.Rules.{IsNet, HasWidth, HaveWidth, HaveOneWidth, IsCell, IsNamed, IsWidth, IsWellFormed, IsFirst, port_names, widths};
 
+use crate::marks::{MARKS, is_met, mark_of, meet};
 use crate::netlist::{Cell, CellOp, Netlist, OutPort, Port, Reg, WIDTH_LIMIT};
 use dip_sets::Name;
 
@@ -279,23 +281,51 @@ fn is_first(netlist: &Netlist, place: usize) -> bool
     }
 }
 
-/// Whether no two ports have one name. It compares each with all before it, since it has no memory.
+/// The mark of the name at a place.
+fn mark_at(netlist: &Netlist, place: usize) -> usize
+    ensures value { result ≡ marks.mark_of (unwrap_or (slice_get (port_names netlist.now) place) []) }
+    ensures few { result < MARKS }
+{
+    match name_at(netlist, place) {
+        Some(name) => mark_of(name.bytes()),
+        None => 0,
+    }
+}
+
+/// The same as `is_first`, where the marks of all earlier names were met.
+#[tactic(auto, using(crate::proofs::Marked::unmet_first))]
+fn is_first_by(netlist: &Netlist, place: usize, met: &[bool]) -> bool
+    requires place { place < length (port_names netlist.now) }
+    requires met { marks.AreMet met.now (take place (port_names netlist.now)) }
+    ensures { IsTrue result ↔ IsFirst (port_names netlist.now) place }
+{
+    if is_met(met, mark_at(netlist, place)) {
+        is_first(netlist, place)
+    } else {
+        true
+    }
+}
+
+/// Whether no two ports have one name. It takes no memory but a table of marks: a name is compared with all
+/// before it only where its mark was met.
 fn names_differ(netlist: &Netlist) -> bool
     ensures { IsTrue result ↔ AllPairs (λ x y. x ≢ y) (port_names netlist.now) }
 {
     let inputs = netlist.inputs.as_slice();
     let outputs = netlist.outputs.as_slice();
+    let mut met = [false; MARKS];
     for place in 0..inputs.len() + outputs.len() {
-        if !is_first(netlist, place) {
+        if !is_first_by(netlist, place, &met) {
             return false;
         }
+        meet(&mut met, mark_at(netlist, place));
     }
     true
 }
 
 /// Whether the rules of well-formed netlists hold: its name, its ports, the number of its nets, their
 /// widths, and what each register, cell and output names. Takes time linear in the size of the netlist, but
-/// for the names of the ports, each of which is compared with all others.
+/// for the names of the ports: one whose mark an earlier one has is compared with all earlier ones.
 pub fn well_formed(netlist: &Netlist) -> bool
     ensures { IsTrue result ↔ IsWellFormed netlist.now }
 {

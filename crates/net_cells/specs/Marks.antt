@@ -1,0 +1,16 @@
+-- Marks of names, which equal names share: a name whose mark wasn't met before wasn't either.
+use Rattle.std.specs.Prelude.{◌≡◌, ℕ, ◌+◌, ◌*◌, ◌%◌, List, [], ◌∷◌, Bool, true, All, Some, slice_get}
+
+abbrev pub mark_count : ℕ
+mark_count = 65536
+
+abbrev pub mark_from : ℕ → List ℕ → ℕ
+mark_from mark [] = mark
+mark_from mark (byte ∷ bytes) = mark_from ((mark * 31 + byte) % mark_count) bytes
+
+abbrev pub mark_of : List ℕ → ℕ
+mark_of name = mark_from 0 name
+
+-- the marks of these names were met
+abbrev pub AreMet : List Bool → List (List ℕ) → Type 0
+AreMet met names = All (λ name. slice_get met (mark_of name) ≡ Some true) names
