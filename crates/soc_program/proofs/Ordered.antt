@@ -1,10 +1,9 @@
 -- The checks of a file and those of its design stand in order together.
-use Rattle.std.proofs.Common.{◌≡◌, ℕ, ◌<◌, ◌≤◌, List, [], ◌∷◌, ◌++◌, Bool, true, false, ◌&&◌, Option, Some, None, refl, arith}
-use Rattle.std.specs.Prelude.{All, AllPairs, nat_le}
+use Rattle.std.proofs.Common.{◌≡◌, ℕ, ◌≤◌, List, [], ◌∷◌, Bool, true, false, ◌&&◌, Option, Some, None, refl, arith}
+use Rattle.std.specs.Prelude.{All, nat_le}
 use Rattle.std.specs.List.{list_all}
-use Rattle.std.proofs.lemmas.Bool.{leb-true}
 use Rattle.std.proofs.lemmas.List.Elements.{All-nil, All-cons, All-append}
-use Rattle.dip_lists.specs.First.{Check, first_failing}
+use Rattle.dip_lists.specs.First.{Check}
 use Rattle.dip_lists.specs.FirstLaw.{Precedes, HasRisingSubjects, AreInOrder}
 use Rattle.dip_lists.proofs.FirstFailures.{first_law}
 use Rattle.dip_graph.specs.declared.design.Design.{Design}
@@ -45,7 +44,7 @@ all_in_order rules bytes =
     let back : AreInOrder (checks_of rules (stated_design bytes)) = later_order rules (stated_design bytes) in
     record {
       ordered = joined Precedes (file_checks bytes) (checks_of rules (stated_design bytes)) front.ordered back.ordered
-        (lower_precede 5 (file_checks bytes) (checks_of rules (stated_design bytes)) (numbers_low bytes) (high rules (stated_design bytes)));
+          (lower_precede 5 (file_checks bytes) (checks_of rules (stated_design bytes)) (numbers_low bytes) (high rules (stated_design bytes)));
       rising = All-append HasRisingSubjects (file_checks bytes) (checks_of rules (stated_design bytes)) front.rising back.rising;
     }
 
