@@ -11,7 +11,8 @@ use Rattle.dip_sets.proofs.Members.{disjoint_from_test}
 use Rattle.dip_lists.specs.First.{first, places}
 use Rattle.tl_params.specs.declared.ports.Slave.{Slave}
 use Rattle.tl_params.specs.declared.ports.UpPort.{UpPort}
-use Rattle.dip_checks.specs.Checks.{sets_of, has_overlap, edge_overlaps, overlapping_edges}
+use Rattle.tl_params.specs.Owners.{sets_of}
+use Rattle.dip_checks.specs.Checks.{has_overlap, edge_overlaps, overlapping_edges}
 use Rattle.dip_checks.specs.Apart.{HasDisjointSets}
 
 neither : (a b : Bool) → (a || b) ≡ false → (a ≡ false) × (b ≡ false)

@@ -3,26 +3,13 @@ use Rattle.std.proofs.Common.{◌≡◌, ℕ, zero, suc, ◌⊎◌, inl, inr, �
 use Rattle.std.specs.Prelude.{All, AllPairs, Contains, slice_get}
 use Rattle.std.specs.Option.{IsSomeAnd}
 use Rattle.std.proofs.lemmas.List.Elements.{All-contains, All-weaker, Contains-push_cases, Contains-append_left, Contains-append_right, Contains-append_cases}
+use Rattle.dip_lists.proofs.Pairs.{nowhere, within_cases, behind, rest_pairs}
 use Rattle.dip_sets.specs.Sets.{Pattern, InSome, Disjoint}
 use Rattle.tl_params.specs.declared.ports.Slave.{Slave}
 use Rattle.tl_params.specs.declared.ports.UpPort.{UpPort}
-use Rattle.dip_checks.specs.Checks.{sets_of}
+use Rattle.tl_params.specs.Owners.{sets_of}
 use Rattle.dip_checks.specs.Apart.{HasDisjointSets, HasOneOwnerEach}
 use Rattle.dip_checks.specs.Laws.{OneOwnerLaw}
-
-nowhere : {X : Type 0} (x : X) → Contains [] x → ⊥
-nowhere x h = let within = h.1 in absurd (omega arith)
-
-within_cases : {X : Type 0} (x y : X) (xs : List X) → Contains (x ∷ xs) y → (x ≡ y) ⊎ Contains xs y
-within_cases x y xs h =
-    ⊎_elim (λ one. ⊎_elim (λ none. absurd (nowhere y none)) (λ e. inl e) (Contains-push_cases [] x y one)) (λ later. inr later)
-    (Contains-append_cases (x ∷ []) xs y h)
-
-behind : {X : Type 0} (R : X → X → Type 0) (x : X) (xs : List X) → AllPairs R (x ∷ xs) → All (R x) xs
-behind R x xs h k d within = h zero (suc k) d (omega arith) (omega arith)
-
-rest_pairs : {X : Type 0} (R : X → X → Type 0) (x : X) (xs : List X) → AllPairs R (x ∷ xs) → AllPairs R xs
-rest_pairs R x xs h i j d before within = h (suc i) (suc j) d (omega arith) (omega arith)
 
 -- an element of a list and one of the list behind it
 across : {X : Type 0} (R : X → X → Type 0) (xs ys : List X) (x y : X) → AllPairs R (xs ++ ys) → Contains xs x → Contains ys y → R x y

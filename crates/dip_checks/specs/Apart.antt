@@ -3,7 +3,7 @@ use Rattle.std.specs.Prelude.{ℕ, ◌≡◌, AllPairs}
 use Rattle.dip_sets.specs.Sets.{Disjoint}
 use Rattle.tl_params.specs.declared.ports.UpPort.{UpPort}
 use Rattle.tl_params.specs.OwnerLaw.{Owns}
-use Rattle.dip_checks.specs.Checks.{sets_of}
+use Rattle.tl_params.specs.Owners.{sets_of}
 
 -- no address is in two sets of the edge
 abbrev pub HasDisjointSets : UpPort → Type 0

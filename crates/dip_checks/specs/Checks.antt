@@ -10,6 +10,7 @@ use Rattle.tl_params.specs.declared.ports.Slave.{Slave}
 use Rattle.tl_params.specs.declared.ports.DownPort.{DownPort}
 use Rattle.tl_params.specs.declared.ports.UpPort.{UpPort}
 use Rattle.tl_params.specs.Operations.{largest}
+use Rattle.tl_params.specs.Owners.{sets_of}
 use Rattle.dip_graph.specs.Kinds.{kind_at}
 use Rattle.dip_graph.specs.Orders.{left_out}
 use Rattle.dip_graph.specs.declared.design.NodeKind.{NodeKind}
@@ -102,10 +103,6 @@ abbrev pub wrong_edges : List DownPort → List ℕ
 wrong_edges downs = places (λ number down. masters_are_wrong down.masters) 0 downs
 
 -- ---- check 14: two address sets of one edge have a common address
-
-abbrev pub sets_of : List Slave → List Pattern
-sets_of [] = []
-sets_of (slave ∷ slaves) = slave.addresses ++ sets_of slaves
 
 abbrev pub has_overlap : List Pattern → Bool
 has_overlap [] = false

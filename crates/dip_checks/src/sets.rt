@@ -1,6 +1,7 @@
 ghost use Rattle.std.specs.Prelude.{◌≡◌, ◌↔◌, ◌++◌, length, IsTrue, IfOk, OnOk};
 ghost use Rattle.std.specs.List.{AllAdjacentBelow, list_any};
 ghost use Rattle.dip_sets.specs.Sets.{overlap};
+ghost use Rattle.tl_params.specs.Owners as owners;
 ghost use Rattle.dip_checks.specs.Checks as spec;
 ghost use Rattle.dip_checks.specs.Rows.{EndsBefore};
 
@@ -72,7 +73,7 @@ fn add_sets(all: &mut Items<AddressSet>, sets: &[AddressSet]) -> Result<(), Memo
 
 /// The address sets of some slaves.
 pub fn sets_of(alloc: Global, slaves: &[Slave]) -> Result<Items<AddressSet>, Memory>
-    ensures { IfOk result (λ sets. sets ≡ spec.sets_of slaves.now) }
+    ensures { IfOk result (λ sets. sets ≡ owners.sets_of slaves.now) }
 {
     let mut sets = Items::new(alloc);
     for slave in slaves {

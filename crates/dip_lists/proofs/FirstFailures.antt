@@ -3,22 +3,9 @@ use Rattle.std.proofs.Common.{◌≡◌, ℕ, zero, suc, ◌<◌, ◌⊎◌, inl
 use Rattle.std.specs.Prelude.{All, AllPairs, Contains}
 use Rattle.std.specs.Option.{option_map, option_or}
 use Rattle.std.proofs.lemmas.List.Elements.{All-head, All-tail, All-contains, Contains-push, Contains-push_cases, Contains-append_left, Contains-append_right, Contains-append_cases}
+use Rattle.dip_lists.proofs.Pairs.{nowhere, within_cases, behind, rest_pairs}
 use Rattle.dip_lists.specs.First.{Check, Failure, first, failure_of, first_failing}
 use Rattle.dip_lists.specs.FirstLaw.{Fails, IsBefore, Precedes, HasRisingSubjects, AreInOrder, IsFirstFailure, FirstLaw}
-
-nowhere : {X : Type 0} (x : X) → Contains [] x → ⊥
-nowhere x h = let within = h.1 in absurd (omega arith)
-
-within_cases : {X : Type 0} (x y : X) (xs : List X) → Contains (x ∷ xs) y → (x ≡ y) ⊎ Contains xs y
-within_cases x y xs h =
-    ⊎_elim (λ one. ⊎_elim (λ none. absurd (nowhere y none)) (λ e. inl e) (Contains-push_cases [] x y one)) (λ later. inr later)
-    (Contains-append_cases (x ∷ []) xs y h)
-
-behind : {X : Type 0} (R : X → X → Type 0) (x : X) (xs : List X) → AllPairs R (x ∷ xs) → All (R x) xs
-behind R x xs h k d within = h zero (suc k) d (omega arith) (omega arith)
-
-rest_pairs : {X : Type 0} (R : X → X → Type 0) (x : X) (xs : List X) → AllPairs R (x ∷ xs) → AllPairs R xs
-rest_pairs R x xs h i j d before within = h (suc i) (suc j) d (omega arith) (omega arith)
 
 rest_in_order : (check : Check) (checks : List Check) → AreInOrder (check ∷ checks) → AreInOrder checks
 rest_in_order check checks o =

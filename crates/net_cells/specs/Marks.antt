@@ -1,12 +1,10 @@
 -- Marks of names, which equal names share: a name whose mark wasn't met before wasn't either.
+use Rattle.net_cells.specs.declared.marks.TheConstants.{MARKS}
 use Rattle.std.specs.Prelude.{◌≡◌, ℕ, ◌+◌, ◌*◌, ◌%◌, List, [], ◌∷◌, Bool, true, All, Some, slice_get}
-
-abbrev pub mark_count : ℕ
-mark_count = 65536
 
 abbrev pub mark_from : ℕ → List ℕ → ℕ
 mark_from mark [] = mark
-mark_from mark (byte ∷ bytes) = mark_from ((mark * 31 + byte) % mark_count) bytes
+mark_from mark (byte ∷ bytes) = mark_from ((mark * 31 + byte) % MARKS) bytes
 
 abbrev pub mark_of : List ℕ → ℕ
 mark_of name = mark_from 0 name

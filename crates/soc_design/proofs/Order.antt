@@ -4,6 +4,7 @@ use Rattle.std.specs.Prelude.{All, AllPairs}
 use Rattle.std.proofs.lemmas.List.Elements.{All-nil, All-cons, All-head, All-tail, All-append, All-weaker, All-contains, All-from_recursion}
 use Rattle.std.proofs.lemmas.List.Kept.{AllPairs-cons}
 use Rattle.toml.specs.Data.{Data, Items, no_items, item, Members}
+use Rattle.dip_lists.proofs.Pairs.{joined}
 use Rattle.dip_lists.specs.First.{Check, check}
 use Rattle.dip_lists.specs.FirstLaw.{Precedes, HasRisingSubjects, AreInOrder}
 use Rattle.dip_lists.proofs.FirstFailures.{first_law}
@@ -94,18 +95,6 @@ in_turn_precede number low (c ∷ checks) h =
     (in_turn_precede number h.0 checks h.4)
 
 -- ---- checks of different numbers
-
-behind : {X : Type 0} (R : X → X → Type 0) (x : X) (xs : List X) → AllPairs R (x ∷ xs) → All (R x) xs
-behind R x xs h k d within = h zero (suc k) d (omega arith) (omega arith)
-
-rest_pairs : {X : Type 0} (R : X → X → Type 0) (x : X) (xs : List X) → AllPairs R (x ∷ xs) → AllPairs R xs
-rest_pairs R x xs h i j d before within = h (suc i) (suc j) d (omega arith) (omega arith)
-
-pub joined : {X : Type 0} (R : X → X → Type 0) (xs ys : List X) → AllPairs R xs → AllPairs R ys → All (λ x. All (R x) ys) xs → AllPairs R (xs ++ ys)
-joined R [] ys p q across = q
-joined R (x ∷ xs) ys p q across =
-    AllPairs-cons R x (xs ++ ys) (All-append (R x) xs ys (behind R x xs p) (All-head (λ a. All (R a) ys) x xs across))
-    (joined R xs ys (rest_pairs R x xs p) q (All-tail (λ a. All (R a) ys) x xs across))
 
 pub lower_precede : (bound : ℕ) (xs ys : List Check) → All (λ c. c.number < bound) xs → All (λ c. bound ≤ c.number) ys → All (λ x. All (Precedes x) ys) xs
 lower_precede bound xs ys low high =

@@ -3,6 +3,7 @@ use Rattle.std.proofs.Common.{◌≡◌, ℕ, ◌≤◌, List, [], ◌∷◌, Bo
 use Rattle.std.specs.Prelude.{All, nat_le}
 use Rattle.std.specs.List.{list_all}
 use Rattle.std.proofs.lemmas.List.Elements.{All-nil, All-cons, All-append}
+use Rattle.dip_lists.proofs.Pairs.{joined}
 use Rattle.dip_lists.specs.First.{Check}
 use Rattle.dip_lists.specs.FirstLaw.{Precedes, HasRisingSubjects, AreInOrder}
 use Rattle.dip_lists.proofs.FirstFailures.{first_law}
@@ -11,7 +12,7 @@ use Rattle.dip_rule.specs.Stated.{StatedRule}
 use Rattle.dip_checks.specs.Checks.{design_checks}
 use Rattle.dip_checks.proofs.Order.{in_order}
 use Rattle.soc_design.specs.Reading.{file_checks, stated_design}
-use Rattle.soc_design.proofs.Order.{file_order, joined, lower_precede, numbers_low}
+use Rattle.soc_design.proofs.Order.{file_order, lower_precede, numbers_low}
 use Rattle.soc_program.specs.Designs.{checks_of, all_checks, first_failure}
 use Rattle.soc_program.specs.FirstOfAll.{FirstOfAllLaw}
 

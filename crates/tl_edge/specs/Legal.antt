@@ -5,7 +5,7 @@ use Rattle.dip_sets.specs.Ids.{HasId}
 use Rattle.tl_params.specs.declared.ports.Master.{Master}
 use Rattle.tl_params.specs.declared.ports.Slave.{Slave}
 use Rattle.tl_params.specs.Operations.{sizes_of}
-use Rattle.tl_params.specs.Owners.{owner}
+use Rattle.tl_params.specs.OwnerLaw.{IsOwner}
 use Rattle.tl_edge.specs.declared.message.Request.{Request}
 use Rattle.tl_edge.specs.declared.plan.PlanEdge.{PlanEdge}
 use Rattle.tl_edge.specs.Messages.{IsWholeRequest, bytes_of, has_param}
@@ -18,11 +18,11 @@ Emits request m = HasId m.ids request.source × HasSize (sizes_of m.emits reques
 abbrev pub Supports : Request → Slave → Type 0
 Supports request slave = HasSize (sizes_of slave.supports request.op) (bytes_of request.size)
 
--- the owner of its address exists among some slaves, and supports it
+-- the owner of its address, the slave one of whose sets has it, exists among some slaves and supports it
 pub record IsOwned (slaves : List Slave) (request : Request) : Type 0 where
   pub place : ℕ
   pub slave : Slave
-  pub owns : owner slaves request.address ≡ Some place
+  pub owns : IsOwner slaves request.address (Some place)
   pub is : slice_get slaves place ≡ Some slave
   pub supports : Supports request slave
 

@@ -1,10 +1,9 @@
 -- Which plans are sound. Whatever is promised of networks is promised of those of sound plans.
 use Rattle.std.specs.Prelude.{ℕ, ◌≡◌, ◌+◌, ◌<◌, ◌≤◌, List, [], ◌∷◌, ◌++◌, map, max, length, All, AllPairs, IsTrue, Option, Some, None}
 use Rattle.std.specs.Option.{option_map}
-use Rattle.std.specs.List.{flat_map}
 use Rattle.dip_sets.specs.declared.ids.IdRange.{IdRange}
 use Rattle.dip_sets.specs.Assignments.{assigned}
-use Rattle.dip_sets.specs.Sets.{Pattern, Disjoint, alignment}
+use Rattle.dip_sets.specs.Sets.{Disjoint, alignment}
 use Rattle.dip_sets.specs.SizeRanges.{SizeRange, size_range, is_size_range}
 use Rattle.tl_params.specs.declared.ops.Op.{Op}
 use Rattle.tl_params.specs.declared.ops.Template.{Template}
@@ -14,6 +13,7 @@ use Rattle.tl_params.specs.Arguments.{is_width, fragment_arguments, shrink_argum
 use Rattle.tl_params.specs.Carried.{slaves_fit}
 use Rattle.tl_params.specs.Operations.{largest, sizes_of}
 use Rattle.tl_params.specs.OwnerLaw.{HaveSets}
+use Rattle.tl_params.specs.Owners.{sets_of}
 use Rattle.tl_edge.specs.declared.plan.Leaf.{Leaf}
 use Rattle.tl_edge.specs.declared.plan.PlanEdge.{PlanEdge}
 use Rattle.tl_edge.specs.declared.plan.PlanPort.{PlanPort}
@@ -22,10 +22,6 @@ use Rattle.tl_edge.specs.Bundles.{bundle}
 use Rattle.tl_edge.specs.Plans.{edge_at, ins_of, outs_of, joined_slaves, beat_of, given_edges, taken_edges, times, Reaches}
 
 -- ---- an edge by itself
-
--- the address sets on an edge, those of each slave in order
-abbrev pub sets_of : List Slave → List Pattern
-sets_of slaves = flat_map (λ (slave : Slave). slave.addresses) slaves
 
 -- each set is aligned to the slave's largest transfer
 abbrev pub IsAligned : Slave → Type 0

@@ -1,7 +1,7 @@
 -- Who answers an address, and which ids a port's masters have.
-use Rattle.std.specs.Prelude.{ℕ, ◌+◌, List, [], ◌∷◌, Bool, cond, max, Option, Some, None}
+use Rattle.std.specs.Prelude.{ℕ, ◌+◌, List, [], ◌∷◌, ◌++◌, Bool, cond, max, Option, Some, None}
 use Rattle.std.specs.List.{list_any}
-use Rattle.dip_sets.specs.Sets.{is_in}
+use Rattle.dip_sets.specs.Sets.{Pattern, is_in}
 use Rattle.tl_params.specs.declared.ports.Master.{Master}
 use Rattle.tl_params.specs.declared.ports.Slave.{Slave}
 
@@ -16,6 +16,11 @@ owner_from place (slave ∷ slaves) address = cond (holds slave address) (Some p
 
 abbrev pub owner : List Slave → ℕ → Option ℕ
 owner slaves address = owner_from 0 slaves address
+
+-- the address sets of some slaves, in order
+abbrev pub sets_of : List Slave → List Pattern
+sets_of [] = []
+sets_of (slave ∷ slaves) = slave.addresses ++ sets_of slaves
 
 -- the greatest end of the masters' id ranges, 0 where there is none
 abbrev pub largest_end : List Master → ℕ

@@ -27,7 +27,7 @@ impl Model for NamedPorts {
     ghost invariant = { λ n. n.names ≡ map (λ (p : Port). p.name) n.ports.items };
 }
 
-// The port with a name, one after another.
+// The port with a name, one after another: for bytes that aren't text, which no token of a text is.
 fn place_among(ports: &[Port], name: &[u8]) -> Option<u64>
     ensures { result ≡ spec.place_from 0 name.now ports.now }
 {
@@ -39,7 +39,7 @@ fn place_among(ports: &[Port], name: &[u8]) -> Option<u64>
     None
 }
 
-// Whether no port has a name, one after another.
+// Whether no port has a name, likewise.
 fn is_new_among(ports: &[Port], name: &[u8]) -> bool
     ensures { result ≡ spec.is_new ports.now name.now }
 {
