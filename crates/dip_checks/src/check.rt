@@ -1,7 +1,6 @@
-ghost use Rattle.std.specs.Prelude.{◌≡◌, ◌<◌, ◌≤◌, ◌^◌, ◌++◌, length, None, Ok, map, IfOk, IfErr, OnOk, All};
+ghost use Rattle.std.specs.Prelude.{◌≡◌, ◌<◌, ◌≤◌, ◌^◌, ◌++◌, length, None, Ok, IfOk, IfErr, OnOk, All};
 ghost use Rattle.dip_lists.specs.First.{first_failing};
 ghost use Rattle.dip_graph.specs.Faults.{IsFaultOf};
-ghost use Rattle.dip_rule.specs.Stated.{stated_rule};
 ghost use Rattle.dip_negotiate.specs.Negotiation.{HasNodes, IsOnlySolution, downs, ups};
 ghost use Rattle.dip_checks.specs.Apart.{HasDisjointSets, HasOneOwnerEach};
 ghost use Rattle.dip_checks.specs.Checks as spec;
@@ -13,7 +12,7 @@ use crate::graph::graph;
 use crate::rules::agreed;
 use dip_graph::{Design, Edge, Fault, NodeEntry};
 use dip_negotiate::Solution;
-use dip_rule::{Rule, Rules};
+use dip_rule::{Rules, Stating};
 use std::alloc::Global;
 
 // Checks 13 to 18, on what goes down and up the edges.
@@ -27,14 +26,12 @@ fn ports_are_sound(
     requires edges { length edges.now < 2 ^ 32 }
     requires nodes { length nodes.now < 2 ^ 32 }
     ensures passes { OnOk result (first_failing (spec.edge_checks solution.now.down solution.now.up ++
-        spec.fit_checks (map (λ e. stated_rule e.kind e.template ((⟦<dyn Rule as Rule>⟧
-        e.rule.vtable).says_down e.rule.value) ((⟦<dyn Rule as Rule>⟧ e.rule.vtable).says_up
-        e.rule.value)) rules.now.entries) nodes.now edges.now solution.now.down solution.now.up) ≡ None) }
+        spec.fit_checks (⟦<Rules as Stating>⟧.stated rules.now) nodes.now edges.now solution.now.down
+        solution.now.up) ≡ None) }
     ensures apart { OnOk result (All HasDisjointSets solution.now.up) }
     ensures err { IfErr result (IsFaultOf (first_failing (spec.edge_checks solution.now.down
-        solution.now.up ++ spec.fit_checks (map (λ e. stated_rule e.kind e.template ((⟦<dyn Rule as Rule>⟧
-        e.rule.vtable).says_down e.rule.value) ((⟦<dyn Rule as Rule>⟧ e.rule.vtable).says_up
-        e.rule.value)) rules.now.entries) nodes.now edges.now solution.now.down solution.now.up))) }
+        solution.now.up ++ spec.fit_checks (⟦<Rules as Stating>⟧.stated rules.now) nodes.now edges.now
+        solution.now.down solution.now.up))) }
 {
     let downs = solution.down.as_slice();
     let ups = solution.up.as_slice();
@@ -46,22 +43,17 @@ fn ports_are_sound(
 fn solved(alloc: Global, rules: &Rules, design: &Design, edges: &[Edge]) -> Result<Solution, Fault>
     requires edges { length edges.now < 2 ^ 32 }
     requires nodes { length design.now.nodes < 2 ^ 32 }
-    ensures value { IfOk result (λ solution. solution ≡ spec.solution_of (map (λ e. stated_rule e.kind
-        e.template ((⟦<dyn Rule as Rule>⟧ e.rule.vtable).says_down e.rule.value) ((⟦<dyn Rule as Rule>⟧
-        e.rule.vtable).says_up e.rule.value)) rules.now.entries) design.now edges.now) }
-    ensures down { IfOk result (λ solution. downs (map (λ e. stated_rule e.kind e.template
-        ((⟦<dyn Rule as Rule>⟧ e.rule.vtable).says_down e.rule.value) ((⟦<dyn Rule as Rule>⟧
-        e.rule.vtable).says_up e.rule.value)) rules.now.entries) design.now edges.now ≡ Ok solution.down) }
-    ensures up { IfOk result (λ solution. ups (map (λ e. stated_rule e.kind e.template
-        ((⟦<dyn Rule as Rule>⟧ e.rule.vtable).says_down e.rule.value) ((⟦<dyn Rule as Rule>⟧
-        e.rule.vtable).says_up e.rule.value)) rules.now.entries) design.now edges.now ≡ Ok solution.up) }
-    ensures passes { IfOk result (λ _. first_failing (spec.port_checks (map (λ e. stated_rule e.kind
-        e.template ((⟦<dyn Rule as Rule>⟧ e.rule.vtable).says_down e.rule.value) ((⟦<dyn Rule as Rule>⟧
-        e.rule.vtable).says_up e.rule.value)) rules.now.entries) design.now edges.now) ≡ None) }
+    ensures value { IfOk result (λ solution. solution ≡ spec.solution_of (⟦<Rules as Stating>⟧.stated
+        rules.now) design.now edges.now) }
+    ensures down { IfOk result (λ solution. downs (⟦<Rules as Stating>⟧.stated rules.now) design.now
+        edges.now ≡ Ok solution.down) }
+    ensures up { IfOk result (λ solution. ups (⟦<Rules as Stating>⟧.stated rules.now) design.now
+        edges.now ≡ Ok solution.up) }
+    ensures passes { IfOk result (λ _. first_failing (spec.port_checks (⟦<Rules as Stating>⟧.stated
+        rules.now) design.now edges.now) ≡ None) }
     ensures apart { IfOk result (λ solution. All HasDisjointSets solution.up) }
-    ensures err { IfErr result (IsFaultOf (first_failing (spec.port_checks (map (λ e. stated_rule e.kind
-        e.template ((⟦<dyn Rule as Rule>⟧ e.rule.vtable).says_down e.rule.value) ((⟦<dyn Rule as Rule>⟧
-        e.rule.vtable).says_up e.rule.value)) rules.now.entries) design.now edges.now))) }
+    ensures err { IfErr result (IsFaultOf (first_failing (spec.port_checks (⟦<Rules as Stating>⟧.stated
+        rules.now) design.now edges.now))) }
 {
     let solution = agreed(alloc, design, edges, rules)?;
     ports_are_sound(alloc, rules, design.nodes.as_slice(), edges, &solution)?;
@@ -78,19 +70,15 @@ pub fn check_design(alloc: Global, design: &Design, rules: &Rules) -> Result<Acc
     requires nodes { length design.now.nodes ≤ 256 }
     requires binds { length design.now.binds ≤ 1024 }
     requires named { All (HasNodes design.now.nodes) design.now.binds }
-    ensures value { IfOk result (λ accepted. accepted ≡ spec.accepted_of (map (λ e. stated_rule e.kind
-        e.template ((⟦<dyn Rule as Rule>⟧ e.rule.vtable).says_down e.rule.value) ((⟦<dyn Rule as Rule>⟧
-        e.rule.vtable).says_up e.rule.value)) rules.now.entries) design.now) }
-    ensures only { IfOk result (λ accepted. IsOnlySolution (map (λ e. stated_rule e.kind e.template
-        ((⟦<dyn Rule as Rule>⟧ e.rule.vtable).says_down e.rule.value) ((⟦<dyn Rule as Rule>⟧
-        e.rule.vtable).says_up e.rule.value)) rules.now.entries) design.now accepted.edges
+    ensures value { IfOk result (λ accepted. accepted ≡ spec.accepted_of (⟦<Rules as Stating>⟧.stated
+        rules.now) design.now) }
+    ensures only { IfOk result (λ accepted. IsOnlySolution (⟦<Rules as Stating>⟧.stated rules.now)
+        design.now accepted.edges
         accepted.solution) }
-    ensures passes { IfOk result (λ _. first_failing (spec.design_checks (map (λ e. stated_rule e.kind
-        e.template ((⟦<dyn Rule as Rule>⟧ e.rule.vtable).says_down e.rule.value) ((⟦<dyn Rule as Rule>⟧
-        e.rule.vtable).says_up e.rule.value)) rules.now.entries) design.now) ≡ None) }
-    ensures err { IfErr result (IsFaultOf (first_failing (spec.design_checks (map (λ e. stated_rule e.kind
-        e.template ((⟦<dyn Rule as Rule>⟧ e.rule.vtable).says_down e.rule.value) ((⟦<dyn Rule as Rule>⟧
-        e.rule.vtable).says_up e.rule.value)) rules.now.entries) design.now))) }
+    ensures passes { IfOk result (λ _. first_failing (spec.design_checks (⟦<Rules as Stating>⟧.stated
+        rules.now) design.now) ≡ None) }
+    ensures err { IfErr result (IsFaultOf (first_failing (spec.design_checks
+        (⟦<Rules as Stating>⟧.stated rules.now) design.now))) }
     ensures apart { IfOk result (λ accepted. All HasDisjointSets accepted.solution.up) }
     ensures owners { IfOk result (λ accepted. All HasOneOwnerEach accepted.solution.up) }
 {

@@ -1,8 +1,7 @@
-ghost use Rattle.std.specs.Prelude.{◌≡◌, ◌<◌, ◌^◌, None, length, map, not, ◌==◌, IfOk, IfErr, OnOk};
+ghost use Rattle.std.specs.Prelude.{◌≡◌, ◌<◌, ◌^◌, None, length, not, ◌==◌, IfOk, IfErr, OnOk};
 ghost use Rattle.std.specs.List.{list_any};
 ghost use Rattle.dip_lists.specs.First.{first, first_failing, places};
 ghost use Rattle.dip_graph.specs.Faults.{IsFaultAt, IsFaultOf};
-ghost use Rattle.dip_rule.specs.Stated.{stated_rule};
 ghost use Rattle.dip_checks.specs.Checks as spec;
 ghost use Rattle.dip_checks.specs.Weights.{edges_from, edges_to, weight};
 
@@ -10,7 +9,7 @@ use crate::weights::weight;
 use dip_graph::{Edge, Fault, NodeEntry, NodeKind, Numbers};
 use dip_lists::{Items, Memory};
 use dip_negotiate::is_nexus_node;
-use dip_rule::{Rule, Rules};
+use dip_rule::{Rules, Stating};
 use std::alloc::Global;
 use tl_params::{Args, DownPort, UpPort};
 use tl_rules::fits;
@@ -95,9 +94,8 @@ fn nexus_differs(
     node: u32,
 ) -> Result<bool, Memory>
     requires { length edges.now < 2 ^ 32 }
-    ensures { IfOk result (λ differs. differs ≡ spec.nexus_differs (map (λ e. stated_rule e.kind
-        e.template ((⟦<dyn Rule as Rule>⟧ e.rule.vtable).says_down e.rule.value) ((⟦<dyn Rule as Rule>⟧
-        e.rule.vtable).says_up e.rule.value)) rules.now.entries) nodes.now edges.now ups.now node) }
+    ensures { IfOk result (λ differs. differs ≡ spec.nexus_differs (⟦<Rules as Stating>⟧.stated
+        rules.now) nodes.now edges.now ups.now node) }
 {
     if !is_nexus_node(rules, nodes, node) {
         return Ok(false);
@@ -116,12 +114,10 @@ fn beats_are_equal(
 ) -> Result<(), Fault>
     requires edges { length edges.now < 2 ^ 32 }
     requires nodes { length nodes.now < 2 ^ 32 }
-    ensures passes { OnOk result (first (spec.differing_nodes (map (λ e. stated_rule e.kind e.template
-        ((⟦<dyn Rule as Rule>⟧ e.rule.vtable).says_down e.rule.value) ((⟦<dyn Rule as Rule>⟧
-        e.rule.vtable).says_up e.rule.value)) rules.now.entries) nodes.now edges.now ups.now) ≡ None) }
-    ensures err { IfErr result (IsFaultAt 16 (spec.differing_nodes (map (λ e. stated_rule e.kind
-        e.template ((⟦<dyn Rule as Rule>⟧ e.rule.vtable).says_down e.rule.value) ((⟦<dyn Rule as Rule>⟧
-        e.rule.vtable).says_up e.rule.value)) rules.now.entries) nodes.now edges.now ups.now)) }
+    ensures passes { OnOk result (first (spec.differing_nodes (⟦<Rules as Stating>⟧.stated rules.now)
+        nodes.now edges.now ups.now) ≡ None) }
+    ensures err { IfErr result (IsFaultAt 16 (spec.differing_nodes (⟦<Rules as Stating>⟧.stated
+        rules.now) nodes.now edges.now ups.now)) }
 {
     for (node, _) in nodes.iter().enumerate() {
         if nexus_differs(alloc, rules, nodes, edges, ups, node as u32)? {
@@ -144,9 +140,8 @@ fn kind_misfits(
     ups: &[UpPort],
 ) -> Result<bool, Memory>
     requires { length edges.now < 2 ^ 32 }
-    ensures { IfOk result (λ misfits. misfits ≡ spec.kind_misfits (map (λ e. stated_rule e.kind e.template
-        ((⟦<dyn Rule as Rule>⟧ e.rule.vtable).says_down e.rule.value) ((⟦<dyn Rule as Rule>⟧
-        e.rule.vtable).says_up e.rule.value)) rules.now.entries) node kind.now edges.now downs.now
+    ensures { IfOk result (λ misfits. misfits ≡ spec.kind_misfits (⟦<Rules as Stating>⟧.stated
+        rules.now) node kind.now edges.now downs.now
         ups.now) }
 {
     let NodeKind::Ruled { kind, args } = kind else {
@@ -171,13 +166,11 @@ fn templates_fit(
 ) -> Result<(), Fault>
     requires edges { length edges.now < 2 ^ 32 }
     requires nodes { length nodes.now < 2 ^ 32 }
-    ensures passes { OnOk result (first (spec.misfitting_nodes (map (λ e. stated_rule e.kind e.template
-        ((⟦<dyn Rule as Rule>⟧ e.rule.vtable).says_down e.rule.value) ((⟦<dyn Rule as Rule>⟧
-        e.rule.vtable).says_up e.rule.value)) rules.now.entries) nodes.now edges.now downs.now ups.now) ≡
+    ensures passes { OnOk result (first (spec.misfitting_nodes (⟦<Rules as Stating>⟧.stated rules.now)
+        nodes.now edges.now downs.now ups.now) ≡
         None) }
-    ensures err { IfErr result (IsFaultAt 17 (spec.misfitting_nodes (map (λ e. stated_rule e.kind
-        e.template ((⟦<dyn Rule as Rule>⟧ e.rule.vtable).says_down e.rule.value) ((⟦<dyn Rule as Rule>⟧
-        e.rule.vtable).says_up e.rule.value)) rules.now.entries) nodes.now edges.now downs.now ups.now)) }
+    ensures err { IfErr result (IsFaultAt 17 (spec.misfitting_nodes (⟦<Rules as Stating>⟧.stated
+        rules.now) nodes.now edges.now downs.now ups.now)) }
 {
     for (node, entry) in nodes.iter().enumerate() {
         if kind_misfits(alloc, rules, node as u32, &entry.kind, edges, downs, ups)? {
@@ -201,13 +194,11 @@ fn weight_is_borne(
 ) -> Result<(), Fault>
     requires edges { length edges.now < 2 ^ 32 }
     requires nodes { length nodes.now < 2 ^ 32 }
-    ensures passes { OnOk result (first (spec.overweight (weight (map (λ e. stated_rule e.kind e.template
-        ((⟦<dyn Rule as Rule>⟧ e.rule.vtable).says_down e.rule.value) ((⟦<dyn Rule as Rule>⟧
-        e.rule.vtable).says_up e.rule.value)) rules.now.entries) nodes.now edges.now downs.now ups.now)) ≡
+    ensures passes { OnOk result (first (spec.overweight (weight (⟦<Rules as Stating>⟧.stated rules.now)
+        nodes.now edges.now downs.now ups.now)) ≡
         None) }
-    ensures err { IfErr result (IsFaultAt 18 (spec.overweight (weight (map (λ e. stated_rule e.kind
-        e.template ((⟦<dyn Rule as Rule>⟧ e.rule.vtable).says_down e.rule.value) ((⟦<dyn Rule as Rule>⟧
-        e.rule.vtable).says_up e.rule.value)) rules.now.entries) nodes.now edges.now downs.now ups.now))) }
+    ensures err { IfErr result (IsFaultAt 18 (spec.overweight (weight (⟦<Rules as Stating>⟧.stated
+        rules.now) nodes.now edges.now downs.now ups.now))) }
 {
     let subject = weight(alloc, rules, nodes, edges, downs, ups)?;
     if subject > MOST_WEIGHT {
@@ -231,13 +222,11 @@ pub fn network_fits(
 ) -> Result<(), Fault>
     requires edges { length edges.now < 2 ^ 32 }
     requires nodes { length nodes.now < 2 ^ 32 }
-    ensures passes { OnOk result (first_failing (spec.fit_checks (map (λ e. stated_rule e.kind e.template
-        ((⟦<dyn Rule as Rule>⟧ e.rule.vtable).says_down e.rule.value) ((⟦<dyn Rule as Rule>⟧
-        e.rule.vtable).says_up e.rule.value)) rules.now.entries) nodes.now edges.now downs.now ups.now) ≡
+    ensures passes { OnOk result (first_failing (spec.fit_checks (⟦<Rules as Stating>⟧.stated rules.now)
+        nodes.now edges.now downs.now ups.now) ≡
         None) }
-    ensures err { IfErr result (IsFaultOf (first_failing (spec.fit_checks (map (λ e. stated_rule e.kind
-        e.template ((⟦<dyn Rule as Rule>⟧ e.rule.vtable).says_down e.rule.value) ((⟦<dyn Rule as Rule>⟧
-        e.rule.vtable).says_up e.rule.value)) rules.now.entries) nodes.now edges.now downs.now ups.now))) }
+    ensures err { IfErr result (IsFaultOf (first_failing (spec.fit_checks (⟦<Rules as Stating>⟧.stated
+        rules.now) nodes.now edges.now downs.now ups.now))) }
 {
     beats_are_equal(alloc, rules, nodes, edges, ups)?;
     templates_fit(alloc, rules, nodes, edges, downs, ups)?;

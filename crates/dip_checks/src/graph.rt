@@ -1,20 +1,17 @@
-ghost use Rattle.std.specs.Prelude.{◌≡◌, ◌<◌, ◌≤◌, ◌^◌, None, length, map, IfOk, IfErr, OnOk};
+ghost use Rattle.std.specs.Prelude.{◌≡◌, ◌<◌, ◌≤◌, ◌^◌, None, length, IfOk, IfErr, OnOk};
 ghost use Rattle.dip_lists.specs.First.{first, first_failing, places};
 ghost use Rattle.dip_graph.specs.Faults.{IsFaultAt, IsFaultOf};
 ghost use Rattle.dip_graph.specs.Orders.{left_out};
-ghost use Rattle.dip_rule.specs.Stated.{stated_rule};
 ghost use Rattle.dip_stars.specs.Edges.{IsStarFault, design_counts};
 ghost use Rattle.dip_checks.specs.Checks as spec;
 
 use dip_graph::{BindEntry, Design, Edges, Fault, NodeEntry, NodeKind, OrderFault, kind_at, order};
-use dip_rule::{Rule, Rules};
+use dip_rule::{Rules, Stating};
 use dip_stars::{StarFault, resolve};
 use std::alloc::Global;
 
 fn kind_is_unruled(rules: &Rules, kind: &NodeKind) -> bool
-    ensures { result ≡ spec.kind_is_unruled (map (λ e. stated_rule e.kind e.template
-        ((⟦<dyn Rule as Rule>⟧ e.rule.vtable).says_down e.rule.value)
-        ((⟦<dyn Rule as Rule>⟧ e.rule.vtable).says_up e.rule.value)) rules.now.entries) kind.now }
+    ensures { result ≡ spec.kind_is_unruled (⟦<Rules as Stating>⟧.stated rules.now) kind.now }
 {
     match kind {
         NodeKind::Ruled { kind, .. } => rules.template_of(kind).is_none(),
@@ -23,9 +20,8 @@ fn kind_is_unruled(rules: &Rules, kind: &NodeKind) -> bool
 }
 
 fn unruled_node(rules: &Rules, nodes: &[NodeEntry]) -> Option<u64>
-    ensures { result ≡ first (places (λ number node. spec.kind_is_unruled (map (λ e. stated_rule e.kind
-        e.template ((⟦<dyn Rule as Rule>⟧ e.rule.vtable).says_down e.rule.value) ((⟦<dyn Rule as Rule>⟧
-        e.rule.vtable).says_up e.rule.value)) rules.now.entries) node.kind) 0 nodes.now) }
+    ensures { result ≡ first (places (λ number node. spec.kind_is_unruled (⟦<Rules as Stating>⟧.stated
+        rules.now) node.kind) 0 nodes.now) }
 {
     for (number, node) in nodes.iter().enumerate() {
         if kind_is_unruled(rules, &node.kind) {
@@ -37,12 +33,10 @@ fn unruled_node(rules: &Rules, nodes: &[NodeEntry]) -> Option<u64>
 
 // Check 5: each kind has a rule.
 fn kinds_have_rules(design: &Design, rules: &Rules) -> Result<(), Fault>
-    ensures passes { OnOk result (first (spec.unruled_nodes (map (λ e. stated_rule e.kind e.template
-        ((⟦<dyn Rule as Rule>⟧ e.rule.vtable).says_down e.rule.value)
-        ((⟦<dyn Rule as Rule>⟧ e.rule.vtable).says_up e.rule.value)) rules.now.entries) design.now) ≡ None) }
-    ensures err { IfErr result (IsFaultAt 5 (spec.unruled_nodes (map (λ e. stated_rule e.kind e.template
-        ((⟦<dyn Rule as Rule>⟧ e.rule.vtable).says_down e.rule.value)
-        ((⟦<dyn Rule as Rule>⟧ e.rule.vtable).says_up e.rule.value)) rules.now.entries) design.now)) }
+    ensures passes { OnOk result (first (spec.unruled_nodes (⟦<Rules as Stating>⟧.stated rules.now)
+        design.now) ≡ None) }
+    ensures err { IfErr result (IsFaultAt 5 (spec.unruled_nodes (⟦<Rules as Stating>⟧.stated rules.now)
+        design.now)) }
 {
     match unruled_node(rules, design.nodes.as_slice()) {
         Some(subject) => Err(Fault::Check { number: 5, subject }),
@@ -98,14 +92,10 @@ fn binds_make_no_cycle(alloc: Global, design: &Design) -> Result<(), Fault>
 
 #[tactic(auto, using(crate::proofs::Stars::failures))]
 fn star_fault(design: &Design, rules: &Rules, fault: StarFault) -> Fault
-    requires { IsStarFault (map (λ e. stated_rule e.kind e.template ((⟦<dyn Rule as Rule>⟧
-        e.rule.vtable).says_down e.rule.value) ((⟦<dyn Rule as Rule>⟧ e.rule.vtable).says_up
-        e.rule.value)) rules.now.entries) design.now.nodes (design_counts (map (λ e. stated_rule e.kind
-        e.template ((⟦<dyn Rule as Rule>⟧ e.rule.vtable).says_down e.rule.value) ((⟦<dyn Rule as Rule>⟧
-        e.rule.vtable).says_up e.rule.value)) rules.now.entries) design.now) fault }
-    ensures { IsFaultOf (first_failing (spec.star_checks (map (λ e. stated_rule e.kind e.template
-        ((⟦<dyn Rule as Rule>⟧ e.rule.vtable).says_down e.rule.value)
-        ((⟦<dyn Rule as Rule>⟧ e.rule.vtable).says_up e.rule.value)) rules.now.entries) design.now)) result }
+    requires { IsStarFault (⟦<Rules as Stating>⟧.stated rules.now) design.now.nodes (design_counts
+        (⟦<Rules as Stating>⟧.stated rules.now) design.now) fault }
+    ensures { IsFaultOf (first_failing (spec.star_checks (⟦<Rules as Stating>⟧.stated rules.now)
+        design.now)) result }
 {
     match fault {
         StarFault::StarsWait { bind } => Fault::Check {
@@ -129,16 +119,13 @@ fn star_fault(design: &Design, rules: &Rules, fault: StarFault) -> Fault
 fn edges_of(alloc: Global, design: &Design, rules: &Rules) -> Result<Edges, Fault>
     requires nodes { length design.now.nodes < 2 ^ 32 }
     requires binds { length design.now.binds < 2 ^ 32 }
-    ensures ok { IfOk result (λ edges. edges ≡ spec.edges_in (map (λ e. stated_rule e.kind e.template
-        ((⟦<dyn Rule as Rule>⟧ e.rule.vtable).says_down e.rule.value)
-        ((⟦<dyn Rule as Rule>⟧ e.rule.vtable).says_up e.rule.value)) rules.now.entries) design.now) }
+    ensures ok { IfOk result (λ edges. edges ≡ spec.edges_in (⟦<Rules as Stating>⟧.stated rules.now)
+        design.now) }
     ensures few { IfOk result (λ edges. length edges ≤ 1024) }
-    ensures passes { IfOk result (λ _. first_failing (spec.star_checks (map (λ e. stated_rule e.kind
-        e.template ((⟦<dyn Rule as Rule>⟧ e.rule.vtable).says_down e.rule.value) ((⟦<dyn Rule as Rule>⟧
-        e.rule.vtable).says_up e.rule.value)) rules.now.entries) design.now) ≡ None) }
-    ensures err { IfErr result (IsFaultOf (first_failing (spec.star_checks (map (λ e. stated_rule e.kind
-        e.template ((⟦<dyn Rule as Rule>⟧ e.rule.vtable).says_down e.rule.value) ((⟦<dyn Rule as Rule>⟧
-        e.rule.vtable).says_up e.rule.value)) rules.now.entries) design.now))) }
+    ensures passes { IfOk result (λ _. first_failing (spec.star_checks (⟦<Rules as Stating>⟧.stated
+        rules.now) design.now) ≡ None) }
+    ensures err { IfErr result (IsFaultOf (first_failing (spec.star_checks (⟦<Rules as Stating>⟧.stated
+        rules.now) design.now))) }
 {
     match resolve(alloc, design, rules) {
         Ok(edges) => Ok(edges),
@@ -150,17 +137,14 @@ fn edges_of(alloc: Global, design: &Design, rules: &Rules) -> Result<Edges, Faul
 pub fn graph(alloc: Global, design: &Design, rules: &Rules) -> Result<Edges, Fault>
     requires nodes { length design.now.nodes < 2 ^ 32 }
     requires binds { length design.now.binds < 2 ^ 32 }
-    ensures ok { IfOk result (λ edges. edges ≡ spec.edges_in (map (λ e. stated_rule e.kind e.template
-        ((⟦<dyn Rule as Rule>⟧ e.rule.vtable).says_down e.rule.value)
-        ((⟦<dyn Rule as Rule>⟧ e.rule.vtable).says_up e.rule.value)) rules.now.entries) design.now) }
+    ensures ok { IfOk result (λ edges. edges ≡ spec.edges_in (⟦<Rules as Stating>⟧.stated rules.now)
+        design.now) }
     ensures acyclic { IfOk result (λ _. first (left_out design.now) ≡ None) }
     ensures few { IfOk result (λ edges. length edges ≤ 1024) }
-    ensures passes { IfOk result (λ _. first_failing (spec.graph_checks (map (λ e. stated_rule e.kind
-        e.template ((⟦<dyn Rule as Rule>⟧ e.rule.vtable).says_down e.rule.value) ((⟦<dyn Rule as Rule>⟧
-        e.rule.vtable).says_up e.rule.value)) rules.now.entries) design.now) ≡ None) }
-    ensures err { IfErr result (IsFaultOf (first_failing (spec.graph_checks (map (λ e. stated_rule e.kind
-        e.template ((⟦<dyn Rule as Rule>⟧ e.rule.vtable).says_down e.rule.value) ((⟦<dyn Rule as Rule>⟧
-        e.rule.vtable).says_up e.rule.value)) rules.now.entries) design.now))) }
+    ensures passes { IfOk result (λ _. first_failing (spec.graph_checks (⟦<Rules as Stating>⟧.stated
+        rules.now) design.now) ≡ None) }
+    ensures err { IfErr result (IsFaultOf (first_failing (spec.graph_checks (⟦<Rules as Stating>⟧.stated
+        rules.now) design.now))) }
 {
     kinds_have_rules(design, rules)?;
     binds_are_straight(design)?;

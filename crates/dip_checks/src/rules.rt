@@ -1,23 +1,19 @@
-ghost use Rattle.std.specs.Prelude.{◌≡◌, ◌<◌, ◌^◌, None, Ok, length, map, IfOk, IfErr};
+ghost use Rattle.std.specs.Prelude.{◌≡◌, ◌<◌, ◌^◌, None, Ok, length, IfOk, IfErr};
 ghost use Rattle.dip_lists.specs.First.{first_failing};
 ghost use Rattle.dip_graph.specs.Faults.{IsFaultOf};
-ghost use Rattle.dip_rule.specs.Stated.{stated_rule};
 ghost use Rattle.dip_negotiate.specs.Negotiation.{IsNegFault, downs, ups};
 ghost use Rattle.dip_checks.specs.Checks as spec;
 
 use dip_graph::{Design, Edge, Fault};
 use dip_negotiate::{NegFault, Solution, negotiate};
-use dip_rule::{Rule, Rules};
+use dip_rule::{Rules, Stating};
 use std::alloc::Global;
 
 #[tactic(auto, using(crate::proofs::Refusals::down_refused, crate::proofs::Refusals::up_refused))]
 fn refusal(design: &Design, edges: &[Edge], rules: &Rules, fault: NegFault) -> Fault
-    requires { IsNegFault (map (λ e. stated_rule e.kind e.template ((⟦<dyn Rule as Rule>⟧
-        e.rule.vtable).says_down e.rule.value) ((⟦<dyn Rule as Rule>⟧ e.rule.vtable).says_up
-        e.rule.value)) rules.now.entries) design.now edges.now fault }
-    ensures { IsFaultOf (first_failing (spec.rule_checks (map (λ e. stated_rule e.kind e.template
-        ((⟦<dyn Rule as Rule>⟧ e.rule.vtable).says_down e.rule.value) ((⟦<dyn Rule as Rule>⟧
-        e.rule.vtable).says_up e.rule.value)) rules.now.entries) design.now edges.now)) result }
+    requires { IsNegFault (⟦<Rules as Stating>⟧.stated rules.now) design.now edges.now fault }
+    ensures { IsFaultOf (first_failing (spec.rule_checks (⟦<Rules as Stating>⟧.stated rules.now)
+        design.now edges.now)) result }
 {
     match fault {
         NegFault::DownRefused { node, .. } => Fault::Check {
@@ -42,18 +38,14 @@ pub fn agreed(
 ) -> Result<Solution, Fault>
     requires nodes { length design.now.nodes < 2 ^ 32 }
     requires edges { length edges.now < 2 ^ 32 }
-    ensures down { IfOk result (λ solution. downs (map (λ e. stated_rule e.kind e.template
-        ((⟦<dyn Rule as Rule>⟧ e.rule.vtable).says_down e.rule.value) ((⟦<dyn Rule as Rule>⟧
-        e.rule.vtable).says_up e.rule.value)) rules.now.entries) design.now edges.now ≡ Ok solution.down) }
-    ensures up { IfOk result (λ solution. ups (map (λ e. stated_rule e.kind e.template
-        ((⟦<dyn Rule as Rule>⟧ e.rule.vtable).says_down e.rule.value) ((⟦<dyn Rule as Rule>⟧
-        e.rule.vtable).says_up e.rule.value)) rules.now.entries) design.now edges.now ≡ Ok solution.up) }
-    ensures passes { IfOk result (λ _. first_failing (spec.rule_checks (map (λ e. stated_rule e.kind
-        e.template ((⟦<dyn Rule as Rule>⟧ e.rule.vtable).says_down e.rule.value) ((⟦<dyn Rule as Rule>⟧
-        e.rule.vtable).says_up e.rule.value)) rules.now.entries) design.now edges.now) ≡ None) }
-    ensures err { IfErr result (IsFaultOf (first_failing (spec.rule_checks (map (λ e. stated_rule e.kind
-        e.template ((⟦<dyn Rule as Rule>⟧ e.rule.vtable).says_down e.rule.value) ((⟦<dyn Rule as Rule>⟧
-        e.rule.vtable).says_up e.rule.value)) rules.now.entries) design.now edges.now))) }
+    ensures down { IfOk result (λ solution. downs (⟦<Rules as Stating>⟧.stated rules.now) design.now
+        edges.now ≡ Ok solution.down) }
+    ensures up { IfOk result (λ solution. ups (⟦<Rules as Stating>⟧.stated rules.now) design.now
+        edges.now ≡ Ok solution.up) }
+    ensures passes { IfOk result (λ _. first_failing (spec.rule_checks (⟦<Rules as Stating>⟧.stated
+        rules.now) design.now edges.now) ≡ None) }
+    ensures err { IfErr result (IsFaultOf (first_failing (spec.rule_checks (⟦<Rules as Stating>⟧.stated
+        rules.now) design.now edges.now))) }
 {
     match negotiate(alloc, design, edges, rules) {
         Ok(solution) => Ok(solution),

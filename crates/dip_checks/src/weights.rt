@@ -1,5 +1,4 @@
-ghost use Rattle.std.specs.Prelude.{◌≡◌, ◌<◌, ◌^◌, ◌+◌, ◌*◌, ◌/◌, length, map, IfOk};
-ghost use Rattle.dip_rule.specs.Stated.{stated_rule};
+ghost use Rattle.std.specs.Prelude.{◌≡◌, ◌<◌, ◌^◌, ◌+◌, ◌*◌, ◌/◌, length, IfOk};
 ghost use Rattle.tl_rules.specs.Fits.{down_at, up_at};
 ghost use Rattle.tl_params.specs.Owners as owners;
 ghost use Rattle.dip_checks.specs.Weights as spec;
@@ -7,7 +6,7 @@ ghost use Rattle.dip_checks.specs.Weights as spec;
 use crate::fit::{edges_from, edges_to};
 use dip_graph::{Edge, NodeEntry, NodeKind};
 use dip_lists::Memory;
-use dip_rule::{Rule, Rules};
+use dip_rule::{Rules, Stating};
 use std::alloc::Global;
 use tl_params::{Args, DownPort, Slave, Template, UpPort, largest_end};
 
@@ -146,9 +145,8 @@ fn kind_weight(
     ups: &[UpPort],
 ) -> Result<u64, Memory>
     requires { length edges.now < 2 ^ 32 }
-    ensures { IfOk result (λ weight. weight ≡ spec.kind_weight (map (λ e. stated_rule e.kind e.template
-        ((⟦<dyn Rule as Rule>⟧ e.rule.vtable).says_down e.rule.value) ((⟦<dyn Rule as Rule>⟧
-        e.rule.vtable).says_up e.rule.value)) rules.now.entries) node kind.now edges.now downs.now
+    ensures { IfOk result (λ weight. weight ≡ spec.kind_weight (⟦<Rules as Stating>⟧.stated rules.now)
+        node kind.now edges.now downs.now
         ups.now) }
 {
     let NodeKind::Ruled { kind, args } = kind else {
@@ -179,9 +177,8 @@ fn node_weights(
 ) -> Result<u64, Memory>
     requires edges { length edges.now < 2 ^ 32 }
     requires nodes { length nodes.now < 2 ^ 32 }
-    ensures { IfOk result (λ weight. weight ≡ spec.node_weights (map (λ e. stated_rule e.kind e.template
-        ((⟦<dyn Rule as Rule>⟧ e.rule.vtable).says_down e.rule.value) ((⟦<dyn Rule as Rule>⟧
-        e.rule.vtable).says_up e.rule.value)) rules.now.entries) 0 nodes.now edges.now downs.now ups.now) }
+    ensures { IfOk result (λ weight. weight ≡ spec.node_weights (⟦<Rules as Stating>⟧.stated rules.now)
+        0 nodes.now edges.now downs.now ups.now) }
 {
     let mut weight = 0;
     for (node, entry) in nodes.iter().enumerate() {
@@ -202,9 +199,8 @@ pub fn weight(
 ) -> Result<u64, Memory>
     requires edges { length edges.now < 2 ^ 32 }
     requires nodes { length nodes.now < 2 ^ 32 }
-    ensures { IfOk result (λ weight. weight ≡ spec.weight (map (λ e. stated_rule e.kind e.template
-        ((⟦<dyn Rule as Rule>⟧ e.rule.vtable).says_down e.rule.value) ((⟦<dyn Rule as Rule>⟧
-        e.rule.vtable).says_up e.rule.value)) rules.now.entries) nodes.now edges.now downs.now ups.now) }
+    ensures { IfOk result (λ weight. weight ≡ spec.weight (⟦<Rules as Stating>⟧.stated rules.now)
+        nodes.now edges.now downs.now ups.now) }
 {
     let built = node_weights(alloc, rules, nodes, edges, downs, ups)?;
     plus(times(8, edges.len() as u64)?, built)

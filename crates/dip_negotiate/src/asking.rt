@@ -1,18 +1,15 @@
-ghost use Rattle.std.specs.Prelude.{◌≡◌, ◌<◌, ◌^◌, length, map, IfOk};
-ghost use Rattle.dip_rule.specs.Stated.{stated_rule};
+ghost use Rattle.std.specs.Prelude.{◌≡◌, ◌<◌, ◌^◌, length, IfOk};
 ghost use Rattle.dip_negotiate.specs.Places as spec;
 
 use crate::steps::{End, sink_end, source_end};
 use dip_graph::{Edge, NodeEntry, NodeKind, Numbers, kind_at};
 use dip_lists::{Items, Memory};
-use dip_rule::{Rule, Rules};
+use dip_rule::{Rules, Stating};
 use std::alloc::Global;
 
 /// Whether all in ports and out ports of a node belong together.
 pub fn is_nexus_node(rules: &Rules, nodes: &[NodeEntry], node: u32) -> bool
-    ensures { result ≡ spec.is_nexus_node (map (λ e. stated_rule e.kind e.template ((⟦<dyn Rule as Rule>⟧
-        e.rule.vtable).says_down e.rule.value) ((⟦<dyn Rule as Rule>⟧ e.rule.vtable).says_up
-        e.rule.value)) rules.now.entries) nodes.now node }
+    ensures { result ≡ spec.is_nexus_node (⟦<Rules as Stating>⟧.stated rules.now) nodes.now node }
 {
     let Some(NodeKind::Ruled { kind, .. }) = kind_at(nodes, node) else {
         return false;
@@ -64,9 +61,8 @@ pub fn asks_down(
     edge: &Edge,
 ) -> Result<Numbers, Memory>
     requires { length edges.now < 2 ^ 32 }
-    ensures { IfOk result (λ numbers. numbers ≡ spec.asked (map (λ e. stated_rule e.kind e.template
-        ((⟦<dyn Rule as Rule>⟧ e.rule.vtable).says_down e.rule.value) ((⟦<dyn Rule as Rule>⟧
-        e.rule.vtable).says_up e.rule.value)) rules.now.entries) nodes.now edges.now spec.source_end
+    ensures { IfOk result (λ numbers. numbers ≡ spec.asked (⟦<Rules as Stating>⟧.stated rules.now)
+        nodes.now edges.now spec.source_end
         spec.sink_end edge.now) }
 {
     let own = source_end(edge);
@@ -82,9 +78,8 @@ pub fn asks_up(
     edge: &Edge,
 ) -> Result<Numbers, Memory>
     requires { length edges.now < 2 ^ 32 }
-    ensures { IfOk result (λ numbers. numbers ≡ spec.asked (map (λ e. stated_rule e.kind e.template
-        ((⟦<dyn Rule as Rule>⟧ e.rule.vtable).says_down e.rule.value) ((⟦<dyn Rule as Rule>⟧
-        e.rule.vtable).says_up e.rule.value)) rules.now.entries) nodes.now edges.now spec.sink_end
+    ensures { IfOk result (λ numbers. numbers ≡ spec.asked (⟦<Rules as Stating>⟧.stated rules.now)
+        nodes.now edges.now spec.sink_end
         spec.source_end edge.now) }
 {
     let own = sink_end(edge);

@@ -1,7 +1,7 @@
-ghost use Rattle.std.specs.Prelude.{◌≡◌, ◌+◌, ◌<◌, ◌^◌, ℕ, List, Result, Ok, length, map, replicate, slice_get, slice_set, IfOk, IfErr, OnOk, [], ◌++◌};
+ghost use Rattle.std.specs.Prelude.{◌≡◌, ◌+◌, ◌<◌, ◌^◌, ℕ, List, Result, Ok, length, replicate, slice_get, slice_set, IfOk, IfErr, OnOk, [], ◌++◌};
 ghost use Rattle.dip_graph.specs.declared.design.NodeEntry.{NodeEntry};
 ghost use Rattle.dip_graph.specs.declared.edges.Edge.{Edge};
-ghost use Rattle.dip_rule.specs.Stated.{Answers, StatedRule, stated_rule};
+ghost use Rattle.dip_rule.specs.Stated.{Answers, StatedRule};
 ghost use Rattle.dip_negotiate.specs.Negotiation as spec;
 ghost use Rattle.dip_negotiate.specs.Passes.{IsPassFault, Pass, beside, picked, run, stated};
 
@@ -10,7 +10,7 @@ use crate::ports::{says_down, says_up};
 use crate::steps::Step;
 use dip_graph::{Edge, NodeEntry, Numbers};
 use dip_lists::{Duplicate, Items, Memory};
-use dip_rule::{Rule, RuleFault, Rules};
+use dip_rule::{RuleFault, Rules, Stating};
 use std::alloc::Global;
 use thiserror::Error;
 use tl_params::{DownPort, UpPort};
@@ -64,9 +64,8 @@ pub trait Negotiated: Duplicate {
         edge: &Edge,
     ) -> Result<Numbers, Memory>
         requires { length edges.now < 2 ^ 32 }
-        ensures { IfOk result (λ numbers. numbers ≡ (pass (map (λ e. stated_rule e.kind e.template
-            ((⟦<dyn Rule as Rule>⟧ e.rule.vtable).says_down e.rule.value) ((⟦<dyn Rule as Rule>⟧
-            e.rule.vtable).says_up e.rule.value)) rules.now.entries) nodes.now edges.now).asks edge.now) };
+        ensures { IfOk result (λ numbers. numbers ≡ (pass (⟦<Rules as Stating>⟧.stated rules.now)
+            nodes.now edges.now).asks edge.now) };
 
     /// What is stated of an edge from the ports of those.
     fn says(
@@ -77,9 +76,8 @@ pub trait Negotiated: Duplicate {
         edge: &Edge,
         ports: &[Self],
     ) -> Result<Self, RuleFault>
-        ensures { Answers ((pass (map (λ e. stated_rule e.kind e.template ((⟦<dyn Rule as Rule>⟧
-            e.rule.vtable).says_down e.rule.value) ((⟦<dyn Rule as Rule>⟧ e.rule.vtable).says_up
-            e.rule.value)) rules.now.entries) nodes.now edges.now).says edge.now ports.now) result };
+        ensures { Answers ((pass (⟦<Rules as Stating>⟧.stated rules.now) nodes.now edges.now).says
+            edge.now ports.now) result };
 }
 
 impl Negotiated for DownPort {
@@ -207,9 +205,8 @@ fn stated<P: Negotiated>(
     ports: &[P],
 ) -> Result<P, RuleFault>
     requires { length edges.now < 2 ^ 32 }
-    ensures { Answers (stated (P.pass (map (λ e. stated_rule e.kind e.template ((⟦<dyn Rule as Rule>⟧
-        e.rule.vtable).says_down e.rule.value) ((⟦<dyn Rule as Rule>⟧ e.rule.vtable).says_up
-        e.rule.value)) rules.now.entries) nodes.now edges.now) ports.now edge.now) result }
+    ensures { Answers (stated (P.pass (⟦<Rules as Stating>⟧.stated rules.now) nodes.now edges.now)
+        ports.now edge.now) result }
 {
     let numbers = P::asks(alloc, rules, nodes, edges, edge)?;
     let some = picked(alloc, ports, numbers.as_slice())?;
@@ -253,13 +250,11 @@ pub fn pass<P: Negotiated>(
     steps: &[Step],
 ) -> Result<Items<P>, PassFault>
     requires { length edges.now < 2 ^ 32 }
-    ensures ok { IfOk result (λ ports. run (P.pass (map (λ e. stated_rule e.kind e.template
-        ((⟦<dyn Rule as Rule>⟧ e.rule.vtable).says_down e.rule.value) ((⟦<dyn Rule as Rule>⟧
-        e.rule.vtable).says_up e.rule.value)) rules.now.entries) nodes.now edges.now) (replicate (length
+    ensures ok { IfOk result (λ ports. run (P.pass (⟦<Rules as Stating>⟧.stated rules.now) nodes.now
+        edges.now) (replicate (length
         edges.now) P.unknown) steps.now ≡ Ok ports) }
-    ensures err { IfErr result (IsPassFault (run (P.pass (map (λ e. stated_rule e.kind e.template
-        ((⟦<dyn Rule as Rule>⟧ e.rule.vtable).says_down e.rule.value) ((⟦<dyn Rule as Rule>⟧
-        e.rule.vtable).says_up e.rule.value)) rules.now.entries) nodes.now edges.now) (replicate (length
+    ensures err { IfErr result (IsPassFault (run (P.pass (⟦<Rules as Stating>⟧.stated rules.now)
+        nodes.now edges.now) (replicate (length
         edges.now) P.unknown) steps.now)) }
 {
     let mut ports = unknowns(alloc, edges.len())?;

@@ -1,10 +1,10 @@
-ghost use Rattle.std.specs.Prelude.{◌≡◌, map, IfOk};
-ghost use Rattle.dip_rule.specs.Stated.{Answers, stated_rule};
+ghost use Rattle.std.specs.Prelude.{◌≡◌, IfOk};
+ghost use Rattle.dip_rule.specs.Stated.{Answers};
 ghost use Rattle.dip_negotiate.specs.Negotiation as spec;
 
 use dip_graph::{Edge, NodeEntry, NodeKind, kind_at};
 use dip_lists::{Few, Items, Memory};
-use dip_rule::{Rule, RuleFault, Rules};
+use dip_rule::{RuleFault, Rules, Stating};
 use dip_sets::IdRange;
 use std::alloc::Global;
 use tl_params::{AddressLists, Addresses, DownPort, Master, Ops, Slave, UpPort};
@@ -65,9 +65,8 @@ pub fn says_down(
     edge: &Edge,
     ins: &[DownPort],
 ) -> Result<DownPort, RuleFault>
-    ensures { Answers (spec.says_down (map (λ e. stated_rule e.kind e.template ((⟦<dyn Rule as Rule>⟧
-        e.rule.vtable).says_down e.rule.value) ((⟦<dyn Rule as Rule>⟧ e.rule.vtable).says_up
-        e.rule.value)) rules.now.entries) nodes.now edge.now ins.now) result }
+    ensures { Answers (spec.says_down (⟦<Rules as Stating>⟧.stated rules.now) nodes.now edge.now
+        ins.now) result }
 {
     match kind_at(nodes, edge.from) {
         Some(NodeKind::Source { ids, emits, .. }) => {
@@ -86,9 +85,8 @@ pub fn says_up(
     edge: &Edge,
     outs: &[UpPort],
 ) -> Result<UpPort, RuleFault>
-    ensures { Answers (spec.says_up (map (λ e. stated_rule e.kind e.template ((⟦<dyn Rule as Rule>⟧
-        e.rule.vtable).says_down e.rule.value) ((⟦<dyn Rule as Rule>⟧ e.rule.vtable).says_up
-        e.rule.value)) rules.now.entries) nodes.now edge.now outs.now) result }
+    ensures { Answers (spec.says_up (⟦<Rules as Stating>⟧.stated rules.now) nodes.now edge.now outs.now)
+        result }
 {
     match kind_at(nodes, edge.to) {
         Some(

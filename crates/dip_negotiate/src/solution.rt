@@ -1,5 +1,4 @@
-ghost use Rattle.std.specs.Prelude.{◌≡◌, ◌<◌, ◌^◌, Ok, length, map, IfOk, IfErr};
-ghost use Rattle.dip_rule.specs.Stated.{stated_rule};
+ghost use Rattle.std.specs.Prelude.{◌≡◌, ◌<◌, ◌^◌, Ok, length, IfOk, IfErr};
 ghost use Rattle.dip_graph.specs.Orders.{canonical_order};
 ghost use Rattle.dip_negotiate.specs.Negotiation as spec;
 
@@ -8,7 +7,7 @@ use crate::pass::{PassFault, pass};
 use crate::steps::{End, sink_end, source_end, steps_down, steps_up};
 use dip_graph::{Design, Edge, NodeEntry, canonical_order};
 use dip_lists::Memory;
-use dip_rule::{Rule, Rules};
+use dip_rule::{Rules, Stating};
 use std::alloc::Global;
 use thiserror::Error;
 use tl_params::{DownPorts, UpPorts};
@@ -45,9 +44,7 @@ impl From<Memory> for NegFault {
 }
 
 fn place_of(rules: &Rules, nodes: &[NodeEntry], own: End) -> End
-    ensures { result ≡ spec.place_of (map (λ e. stated_rule e.kind e.template ((⟦<dyn Rule as Rule>⟧
-        e.rule.vtable).says_down e.rule.value) ((⟦<dyn Rule as Rule>⟧ e.rule.vtable).says_up
-        e.rule.value)) rules.now.entries) nodes.now own }
+    ensures { result ≡ spec.place_of (⟦<Rules as Stating>⟧.stated rules.now) nodes.now own }
 {
     let nexus = is_nexus_node(rules, nodes, own.node);
     End {
@@ -65,12 +62,10 @@ fn down_ports(
 ) -> Result<DownPorts, NegFault>
     requires edges { length edges.now < 2 ^ 32 }
     requires order { order.now ≡ canonical_order design.now }
-    ensures ok { IfOk result (λ ports. spec.downs (map (λ e. stated_rule e.kind e.template
-        ((⟦<dyn Rule as Rule>⟧ e.rule.vtable).says_down e.rule.value) ((⟦<dyn Rule as Rule>⟧
-        e.rule.vtable).says_up e.rule.value)) rules.now.entries) design.now edges.now ≡ Ok ports) }
-    ensures err { IfErr result (spec.IsDownFault (map (λ e. stated_rule e.kind e.template
-        ((⟦<dyn Rule as Rule>⟧ e.rule.vtable).says_down e.rule.value) ((⟦<dyn Rule as Rule>⟧
-        e.rule.vtable).says_up e.rule.value)) rules.now.entries) design.now edges.now) }
+    ensures ok { IfOk result (λ ports. spec.downs (⟦<Rules as Stating>⟧.stated rules.now) design.now
+        edges.now ≡ Ok ports) }
+    ensures err { IfErr result (spec.IsDownFault (⟦<Rules as Stating>⟧.stated rules.now) design.now
+        edges.now) }
 {
     let nodes = design.nodes.as_slice();
     let steps = steps_down(alloc, order, edges)?;
@@ -93,12 +88,10 @@ fn up_ports(
 ) -> Result<UpPorts, NegFault>
     requires edges { length edges.now < 2 ^ 32 }
     requires order { order.now ≡ canonical_order design.now }
-    ensures ok { IfOk result (λ ports. spec.ups (map (λ e. stated_rule e.kind e.template
-        ((⟦<dyn Rule as Rule>⟧ e.rule.vtable).says_down e.rule.value) ((⟦<dyn Rule as Rule>⟧
-        e.rule.vtable).says_up e.rule.value)) rules.now.entries) design.now edges.now ≡ Ok ports) }
-    ensures err { IfErr result (spec.IsUpFault (map (λ e. stated_rule e.kind e.template
-        ((⟦<dyn Rule as Rule>⟧ e.rule.vtable).says_down e.rule.value) ((⟦<dyn Rule as Rule>⟧
-        e.rule.vtable).says_up e.rule.value)) rules.now.entries) design.now edges.now) }
+    ensures ok { IfOk result (λ ports. spec.ups (⟦<Rules as Stating>⟧.stated rules.now) design.now
+        edges.now ≡ Ok ports) }
+    ensures err { IfErr result (spec.IsUpFault (⟦<Rules as Stating>⟧.stated rules.now) design.now
+        edges.now) }
 {
     let nodes = design.nodes.as_slice();
     let steps = steps_up(alloc, order, edges)?;
@@ -125,15 +118,12 @@ pub fn negotiate(
 ) -> Result<Solution, NegFault>
     requires nodes { length design.now.nodes < 2 ^ 32 }
     requires edges { length edges.now < 2 ^ 32 }
-    ensures down { IfOk result (λ solution. spec.downs (map (λ e. stated_rule e.kind e.template
-        ((⟦<dyn Rule as Rule>⟧ e.rule.vtable).says_down e.rule.value) ((⟦<dyn Rule as Rule>⟧
-        e.rule.vtable).says_up e.rule.value)) rules.now.entries) design.now edges.now ≡ Ok solution.down) }
-    ensures up { IfOk result (λ solution. spec.ups (map (λ e. stated_rule e.kind e.template
-        ((⟦<dyn Rule as Rule>⟧ e.rule.vtable).says_down e.rule.value) ((⟦<dyn Rule as Rule>⟧
-        e.rule.vtable).says_up e.rule.value)) rules.now.entries) design.now edges.now ≡ Ok solution.up) }
-    ensures err { IfErr result (spec.IsNegFault (map (λ e. stated_rule e.kind e.template
-        ((⟦<dyn Rule as Rule>⟧ e.rule.vtable).says_down e.rule.value) ((⟦<dyn Rule as Rule>⟧
-        e.rule.vtable).says_up e.rule.value)) rules.now.entries) design.now edges.now) }
+    ensures down { IfOk result (λ solution. spec.downs (⟦<Rules as Stating>⟧.stated rules.now)
+        design.now edges.now ≡ Ok solution.down) }
+    ensures up { IfOk result (λ solution. spec.ups (⟦<Rules as Stating>⟧.stated rules.now) design.now
+        edges.now ≡ Ok solution.up) }
+    ensures err { IfErr result (spec.IsNegFault (⟦<Rules as Stating>⟧.stated rules.now) design.now
+        edges.now) }
 {
     let order = canonical_order(alloc, design)?;
     let down = down_ports(alloc, design, edges, rules, order.as_slice())?;

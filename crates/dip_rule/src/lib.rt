@@ -12,5 +12,5 @@ mod tests;
 pub use asked::{AskedDown, AskedUp, ByDown, ByUp};
 pub use fault::RuleFault;
 pub use rule::Rule;
-pub use rules::{RuleEntries, RuleEntry, Rules};
+pub use rules::{RuleEntries, RuleEntry, Rules, Stating};
 pub use stored::{Says, Stored};

@@ -1,6 +1,6 @@
-ghost use Rattle.std.specs.Prelude.{◌≡◌, map};
+ghost use Rattle.std.specs.Prelude.{◌≡◌, List, map};
 ghost use Rattle.std.specs.Option.{option_map};
-ghost use Rattle.dip_rule.specs.Stated.{Answers, down_by, place_of, rule_of, stated_rule, template_of, up_by};
+ghost use Rattle.dip_rule.specs.Stated.{Answers, StatedRule, down_by, place_of, rule_of, stated_rule, template_of, up_by};
 
 use crate::{Rule, RuleFault};
 use dip_lists::Items;
@@ -25,6 +25,15 @@ pub struct Rules {
     pub entries: RuleEntries,
 }
 
+/// What is stated, for clauses to name.
+pub trait Stating {
+    ghost stated: { Self → List StatedRule };
+}
+
+impl Stating for Rules {
+    ghost stated = { λ rules. map (λ e. stated_rule e.kind e.template ((Rule-box e.rule).says_down e.rule.value) ((Rule-box e.rule).says_up e.rule.value)) rules.entries };
+}
+
 impl RuleEntry {
     fn ask_down(&self, args: &Args, ins: &[DownPort]) -> Result<DownPort, RuleFault>
         ensures { Answers (says_down self.now.rule args.now ins.now) result }
@@ -42,8 +51,7 @@ impl RuleEntry {
 impl Rules {
     /// The place of the first entry of a kind; `None` exactly where there is none.
     pub fn find(&self, kind: &Name) -> Option<usize>
-        ensures { result ≡ place_of (map (λ e. stated_rule e.kind e.template (says_down e.rule)
-            (says_up e.rule)) self.now.entries) kind.now }
+        ensures { result ≡ place_of (⟦<Rules as Stating>⟧.stated self.now) kind.now }
     {
         for (place, entry) in self.entries.as_slice().iter().enumerate() {
             if entry.kind.bytes() == kind.bytes() {
@@ -56,8 +64,7 @@ impl Rules {
     // The first entry of a kind.
     fn entry_of(&self, kind: &Name) -> Option<&RuleEntry>
         ensures { option_map (λ b. stated_rule b.now.kind b.now.template (says_down b.now.rule)
-            (says_up b.now.rule)) result ≡ rule_of (map (λ e. stated_rule e.kind e.template (says_down e.rule)
-            (says_up e.rule)) self.now.entries) kind.now }
+            (says_up b.now.rule)) result ≡ rule_of (⟦<Rules as Stating>⟧.stated self.now) kind.now }
     {
         for entry in self.entries.as_slice() {
             if entry.kind.bytes() == kind.bytes() {
@@ -69,8 +76,7 @@ impl Rules {
 
     /// What is built for the nodes of a kind; `None` exactly where it has no entry.
     pub fn template_of(&self, kind: &Name) -> Option<Template>
-        ensures { result ≡ template_of (map (λ e. stated_rule e.kind e.template (says_down e.rule)
-            (says_up e.rule)) self.now.entries) kind.now }
+        ensures { result ≡ template_of (⟦<Rules as Stating>⟧.stated self.now) kind.now }
     {
         for entry in self.entries.as_slice() {
             if entry.kind.bytes() == kind.bytes() {
@@ -87,8 +93,8 @@ impl Rules {
         args: &Args,
         ins: &[DownPort],
     ) -> Result<DownPort, RuleFault>
-        ensures { Answers (down_by (rule_of (map (λ e. stated_rule e.kind e.template (says_down e.rule)
-            (says_up e.rule)) self.now.entries) kind.now) args.now ins.now) result }
+        ensures { Answers (down_by (rule_of (⟦<Rules as Stating>⟧.stated self.now) kind.now) args.now
+            ins.now) result }
     {
         match self.entry_of(kind) {
             Some(entry) => entry.ask_down(args, ins),
@@ -98,8 +104,8 @@ impl Rules {
 
     /// What the first entry of a kind answers up; a refusal with 0 where there is none.
     pub fn ask_up(&self, kind: &Name, args: &Args, outs: &[UpPort]) -> Result<UpPort, RuleFault>
-        ensures { Answers (up_by (rule_of (map (λ e. stated_rule e.kind e.template (says_down e.rule)
-            (says_up e.rule)) self.now.entries) kind.now) args.now outs.now) result }
+        ensures { Answers (up_by (rule_of (⟦<Rules as Stating>⟧.stated self.now) kind.now) args.now
+            outs.now) result }
     {
         match self.entry_of(kind) {
             Some(entry) => entry.ask_up(args, outs),

@@ -1,12 +1,11 @@
-ghost use Rattle.std.specs.Prelude.{◌≡◌, ◌+ℤ◌, ◌-ℤ◌, pos, length, map, IfOk};
+ghost use Rattle.std.specs.Prelude.{◌≡◌, ◌+ℤ◌, ◌-ℤ◌, pos, length, IfOk};
 ghost use Rattle.dip_graph.specs.Kinds.{kind_at};
-ghost use Rattle.dip_rule.specs.Stated.{stated_rule};
 ghost use Rattle.dip_stars.specs.Rounds as spec;
 
 use dip_graph::{BindEntry, NodeEntry, NodeKind, Star, kind_at};
 use dip_lists::{Items, Memory, Same};
 use dip_negotiate::is_nexus_node;
-use dip_rule::{Rule, Rules};
+use dip_rule::{Rules, Stating};
 use std::alloc::Global;
 
 /// A bind, and how many edges it makes where that is known.
@@ -37,9 +36,7 @@ pub fn decider(bind: &BindEntry) -> Option<u32>
 }
 
 fn first_count(rules: &Rules, nodes: &[NodeEntry], bind: &BindEntry) -> Counted
-    ensures { result ≡ spec.first_count (map (λ e. stated_rule e.kind e.template ((⟦<dyn Rule as Rule>⟧
-        e.rule.vtable).says_down e.rule.value) ((⟦<dyn Rule as Rule>⟧ e.rule.vtable).says_up
-        e.rule.value)) rules.now.entries) nodes.now bind.now }
+    ensures { result ≡ spec.first_count (⟦<Rules as Stating>⟧.stated rules.now) nodes.now bind.now }
 {
     let number = match decider(bind) {
         None => Some(1),
@@ -63,9 +60,8 @@ fn first_counts(
     nodes: &[NodeEntry],
     binds: &[BindEntry],
 ) -> Result<Counts, Memory>
-    ensures { IfOk result (λ counts. counts ≡ spec.first_counts (map (λ e. stated_rule e.kind e.template
-        ((⟦<dyn Rule as Rule>⟧ e.rule.vtable).says_down e.rule.value) ((⟦<dyn Rule as Rule>⟧
-        e.rule.vtable).says_up e.rule.value)) rules.now.entries) nodes.now binds.now) }
+    ensures { IfOk result (λ counts. counts ≡ spec.first_counts (⟦<Rules as Stating>⟧.stated rules.now)
+        nodes.now binds.now) }
 {
     let mut counts = Items::new(alloc);
     for bind in binds {
@@ -257,9 +253,8 @@ pub fn counts_of(
     nodes: &[NodeEntry],
     binds: &[BindEntry],
 ) -> Result<Counts, Memory>
-    ensures value { IfOk result (λ counts. counts ≡ spec.counts_of (map (λ e. stated_rule e.kind
-        e.template ((⟦<dyn Rule as Rule>⟧ e.rule.vtable).says_down e.rule.value) ((⟦<dyn Rule as Rule>⟧
-        e.rule.vtable).says_up e.rule.value)) rules.now.entries) nodes.now binds.now) }
+    ensures value { IfOk result (λ counts. counts ≡ spec.counts_of (⟦<Rules as Stating>⟧.stated
+        rules.now) nodes.now binds.now) }
     ensures long { IfOk result (λ counts. length counts ≡ length binds.now) }
 {
     let first = first_counts(alloc, rules, nodes, binds)?;

@@ -1,7 +1,6 @@
-ghost use Rattle.std.specs.Prelude.{◌≡◌, ◌<◌, ◌≤◌, ◌^◌, None, length, map, IfOk, IfErr, OnOk};
+ghost use Rattle.std.specs.Prelude.{◌≡◌, ◌<◌, ◌≤◌, ◌^◌, None, length, IfOk, IfErr, OnOk};
 ghost use Rattle.std.specs.List.{list_any};
 ghost use Rattle.dip_lists.specs.First.{first};
-ghost use Rattle.dip_rule.specs.Stated.{stated_rule};
 ghost use Rattle.dip_stars.specs.Edges as spec;
 
 use crate::edges::{edges_of, total};
@@ -9,7 +8,7 @@ use crate::rounds::{Counted, counts_of, decider, known_number, signed, sum_from,
 use dip_graph::{Design, Edges, NodeEntry, NodeKind};
 use dip_lists::Memory;
 use dip_negotiate::is_nexus_node;
-use dip_rule::{Rule, Rules};
+use dip_rule::{Rules, Stating};
 use std::alloc::Global;
 use thiserror::Error;
 
@@ -84,9 +83,8 @@ fn kind_is_unfilled(
     node: u32,
     kind: &NodeKind,
 ) -> Result<bool, Memory>
-    ensures { IfOk result (λ fails. fails ≡ spec.kind_is_unfilled (map (λ e. stated_rule e.kind e.template
-        ((⟦<dyn Rule as Rule>⟧ e.rule.vtable).says_down e.rule.value) ((⟦<dyn Rule as Rule>⟧
-        e.rule.vtable).says_up e.rule.value)) rules.now.entries) nodes.now counts.now node kind.now) }
+    ensures { IfOk result (λ fails. fails ≡ spec.kind_is_unfilled (⟦<Rules as Stating>⟧.stated
+        rules.now) nodes.now counts.now node kind.now) }
 {
     match kind {
         NodeKind::Source { ports, .. } => Ok(sum_from(node, counts)? != *ports as i64),
@@ -107,9 +105,8 @@ fn node_is_unfilled(
     node: u32,
     entry: &NodeEntry,
 ) -> Result<bool, Memory>
-    ensures { IfOk result (λ fails. fails ≡ spec.node_is_unfilled (map (λ e. stated_rule e.kind e.template
-        ((⟦<dyn Rule as Rule>⟧ e.rule.vtable).says_down e.rule.value) ((⟦<dyn Rule as Rule>⟧
-        e.rule.vtable).says_up e.rule.value)) rules.now.entries) nodes.now counts.now node entry.now) }
+    ensures { IfOk result (λ fails. fails ≡ spec.node_is_unfilled (⟦<Rules as Stating>⟧.stated
+        rules.now) nodes.now counts.now node entry.now) }
 {
     if is_negative_at(node, counts) {
         Ok(true)
@@ -120,9 +117,8 @@ fn node_is_unfilled(
 
 fn unfilled(rules: &Rules, nodes: &[NodeEntry], counts: &[Counted]) -> Result<Option<u32>, Memory>
     requires { length nodes.now < 2 ^ 32 }
-    ensures { IfOk result (λ node. node ≡ first (spec.unfilled (map (λ e. stated_rule e.kind e.template
-        ((⟦<dyn Rule as Rule>⟧ e.rule.vtable).says_down e.rule.value) ((⟦<dyn Rule as Rule>⟧
-        e.rule.vtable).says_up e.rule.value)) rules.now.entries) nodes.now counts.now)) }
+    ensures { IfOk result (λ node. node ≡ first (spec.unfilled (⟦<Rules as Stating>⟧.stated rules.now)
+        nodes.now counts.now)) }
 {
     for (node, entry) in nodes.iter().enumerate() {
         if node_is_unfilled(rules, nodes, counts, node as u32, entry)? {
@@ -145,12 +141,10 @@ fn all_known(counts: &[Counted]) -> Result<(), StarFault>
 
 fn all_filled(rules: &Rules, nodes: &[NodeEntry], counts: &[Counted]) -> Result<(), StarFault>
     requires { length nodes.now < 2 ^ 32 }
-    ensures passes { OnOk result (first (spec.unfilled (map (λ e. stated_rule e.kind e.template
-        ((⟦<dyn Rule as Rule>⟧ e.rule.vtable).says_down e.rule.value) ((⟦<dyn Rule as Rule>⟧
-        e.rule.vtable).says_up e.rule.value)) rules.now.entries) nodes.now counts.now) ≡ None) }
-    ensures err { IfErr result (spec.IsUnfilled (map (λ e. stated_rule e.kind e.template
-        ((⟦<dyn Rule as Rule>⟧ e.rule.vtable).says_down e.rule.value) ((⟦<dyn Rule as Rule>⟧
-        e.rule.vtable).says_up e.rule.value)) rules.now.entries) nodes.now counts.now) }
+    ensures passes { OnOk result (first (spec.unfilled (⟦<Rules as Stating>⟧.stated rules.now) nodes.now
+        counts.now) ≡ None) }
+    ensures err { IfErr result (spec.IsUnfilled (⟦<Rules as Stating>⟧.stated rules.now) nodes.now
+        counts.now) }
 {
     match unfilled(rules, nodes, counts)? {
         Some(node) => Err(StarFault::Arity { node }),
@@ -180,20 +174,13 @@ fn few_edges(counts: &[Counted]) -> Result<(), StarFault>
 pub fn resolve(alloc: Global, design: &Design, rules: &Rules) -> Result<Edges, StarFault>
     requires nodes { length design.now.nodes < 2 ^ 32 }
     requires binds { length design.now.binds < 2 ^ 32 }
-    ensures ok { IfOk result (λ edges. edges ≡ spec.edges_of (spec.design_counts (map (λ e. stated_rule
-        e.kind e.template ((⟦<dyn Rule as Rule>⟧ e.rule.vtable).says_down e.rule.value)
-        ((⟦<dyn Rule as Rule>⟧ e.rule.vtable).says_up e.rule.value)) rules.now.entries) design.now)) }
-    ensures passes { IfOk result (λ _. spec.AreResolved (map (λ e. stated_rule e.kind e.template
-        ((⟦<dyn Rule as Rule>⟧ e.rule.vtable).says_down e.rule.value) ((⟦<dyn Rule as Rule>⟧
-        e.rule.vtable).says_up e.rule.value)) rules.now.entries) design.now.nodes (spec.design_counts (map
-        (λ e. stated_rule e.kind e.template ((⟦<dyn Rule as Rule>⟧ e.rule.vtable).says_down e.rule.value)
-        ((⟦<dyn Rule as Rule>⟧ e.rule.vtable).says_up e.rule.value)) rules.now.entries) design.now)) }
+    ensures ok { IfOk result (λ edges. edges ≡ spec.edges_of (spec.design_counts
+        (⟦<Rules as Stating>⟧.stated rules.now) design.now)) }
+    ensures passes { IfOk result (λ _. spec.AreResolved (⟦<Rules as Stating>⟧.stated rules.now)
+        design.now.nodes (spec.design_counts (⟦<Rules as Stating>⟧.stated rules.now) design.now)) }
     ensures few { IfOk result (λ edges. length edges ≤ 1024) }
-    ensures err { IfErr result (spec.IsStarFault (map (λ e. stated_rule e.kind e.template
-        ((⟦<dyn Rule as Rule>⟧ e.rule.vtable).says_down e.rule.value) ((⟦<dyn Rule as Rule>⟧
-        e.rule.vtable).says_up e.rule.value)) rules.now.entries) design.now.nodes (spec.design_counts (map
-        (λ e. stated_rule e.kind e.template ((⟦<dyn Rule as Rule>⟧ e.rule.vtable).says_down e.rule.value)
-        ((⟦<dyn Rule as Rule>⟧ e.rule.vtable).says_up e.rule.value)) rules.now.entries) design.now)) }
+    ensures err { IfErr result (spec.IsStarFault (⟦<Rules as Stating>⟧.stated rules.now)
+        design.now.nodes (spec.design_counts (⟦<Rules as Stating>⟧.stated rules.now) design.now)) }
 {
     let nodes = design.nodes.as_slice();
     let counts = counts_of(alloc, rules, nodes, design.binds.as_slice())?;

@@ -2,7 +2,6 @@ ghost use Rattle.std.specs.Prelude.{◌≡◌, ◌≢◌, ◌≤◌, None, lengt
 ghost use Rattle.std.specs.Option.{option_map};
 ghost use Rattle.dip_lists.specs.First.{first_failing};
 ghost use Rattle.dip_io.specs.Outside.{SameContent};
-ghost use Rattle.dip_rule.specs.Stated.{stated_rule};
 ghost use Rattle.dip_negotiate.specs.Negotiation.{HasNodes};
 ghost use Rattle.dip_checks.specs.Checks.{accepted_of, design_checks};
 ghost use Rattle.soc_report.specs.MapText.{map_text};
@@ -16,7 +15,7 @@ ghost use Rattle.soc_program.specs.Answers.{Answered, Completed, world};
 use dip_checks::check_design;
 use dip_graph::{Design, Fault};
 use dip_io::{Failed, Files, LoadFault, Out, put_all};
-use dip_rule::{Rule, Rules};
+use dip_rule::{Rules, Stating};
 use soc_design::read_design;
 use soc_report::{Bytes, Status, fault_text, map_text};
 use std::alloc::Global;
@@ -50,15 +49,12 @@ fn map_of(alloc: Global, design: &Design, rules: &Rules) -> Result<Bytes, Fault>
     requires nodes { length design.now.nodes ≤ 256 }
     requires binds { length design.now.binds ≤ 1024 }
     requires named { All (HasNodes design.now.nodes) design.now.binds }
-    ensures passes { IfOk result (λ _. first_failing (design_checks (map (λ e. stated_rule e.kind e.template
-        ((⟦<dyn Rule as Rule>⟧ e.rule.vtable).says_down e.rule.value)
-        ((⟦<dyn Rule as Rule>⟧ e.rule.vtable).says_up e.rule.value)) rules.now.entries) design.now) ≡ None) }
-    ensures map { IfOk result (λ text. text ≡ map_text design.now (accepted_of (map (λ e. stated_rule
-        e.kind e.template ((⟦<dyn Rule as Rule>⟧ e.rule.vtable).says_down e.rule.value)
-        ((⟦<dyn Rule as Rule>⟧ e.rule.vtable).says_up e.rule.value)) rules.now.entries) design.now)) }
-    ensures err { IfErr result (IsFaultOf (first_failing (design_checks (map (λ e. stated_rule e.kind
-        e.template ((⟦<dyn Rule as Rule>⟧ e.rule.vtable).says_down e.rule.value) ((⟦<dyn Rule as Rule>⟧
-        e.rule.vtable).says_up e.rule.value)) rules.now.entries) design.now))) }
+    ensures passes { IfOk result (λ _. first_failing (design_checks (⟦<Rules as Stating>⟧.stated
+        rules.now) design.now) ≡ None) }
+    ensures map { IfOk result (λ text. text ≡ map_text design.now (accepted_of
+        (⟦<Rules as Stating>⟧.stated rules.now) design.now)) }
+    ensures err { IfErr result (IsFaultOf (first_failing (design_checks (⟦<Rules as Stating>⟧.stated
+        rules.now) design.now))) }
 {
     let accepted = check_design(alloc, design, rules)?;
     let text = map_text(alloc, design, &accepted)?;
@@ -67,15 +63,11 @@ fn map_of(alloc: Global, design: &Design, rules: &Rules) -> Result<Bytes, Fault>
 
 // The map of a design file, or the first check that it fails.
 fn map_design(alloc: Global, bytes: &[u8], rules: &Rules) -> Result<Bytes, Fault>
-    ensures passes { IfOk result (λ _. first_failure (map (λ e. stated_rule e.kind e.template
-        ((⟦<dyn Rule as Rule>⟧ e.rule.vtable).says_down e.rule.value)
-        ((⟦<dyn Rule as Rule>⟧ e.rule.vtable).says_up e.rule.value)) rules.now.entries) bytes.now ≡ None) }
-    ensures map { IfOk result (λ text. text ≡ map_of (map (λ e. stated_rule e.kind e.template
-        ((⟦<dyn Rule as Rule>⟧ e.rule.vtable).says_down e.rule.value)
-        ((⟦<dyn Rule as Rule>⟧ e.rule.vtable).says_up e.rule.value)) rules.now.entries) bytes.now) }
-    ensures err { IfErr result (IsFaultOf (first_failure (map (λ e. stated_rule e.kind e.template
-        ((⟦<dyn Rule as Rule>⟧ e.rule.vtable).says_down e.rule.value)
-        ((⟦<dyn Rule as Rule>⟧ e.rule.vtable).says_up e.rule.value)) rules.now.entries) bytes.now)) }
+    ensures passes { IfOk result (λ _. first_failure (⟦<Rules as Stating>⟧.stated rules.now) bytes.now ≡
+        None) }
+    ensures map { IfOk result (λ text. text ≡ map_of (⟦<Rules as Stating>⟧.stated rules.now) bytes.now) }
+    ensures err { IfErr result (IsFaultOf (first_failure (⟦<Rules as Stating>⟧.stated rules.now)
+        bytes.now)) }
 {
     let design = read_design(alloc, bytes)?;
     map_of(alloc, &design, rules)
@@ -83,9 +75,8 @@ fn map_design(alloc: Global, bytes: &[u8], rules: &Rules) -> Result<Bytes, Fault
 
 // Runs on the bytes of a design file.
 fn run_on<O: Out>(alloc: Global, bytes: &[u8], rules: &Rules, out: &mut O) -> Status
-    ensures { RunsOn (map (λ e. stated_rule e.kind e.template ((⟦<dyn Rule as Rule>⟧
-        e.rule.vtable).says_down e.rule.value) ((⟦<dyn Rule as Rule>⟧ e.rule.vtable).says_up
-        e.rule.value)) rules.now.entries) bytes.now result (O.seen out.old) (O.seen out.new) }
+    ensures { RunsOn (⟦<Rules as Stating>⟧.stated rules.now) bytes.now result (O.seen out.old) (O.seen
+        out.new) }
 {
     match map_design(alloc, bytes, rules) {
         Ok(text) => print_text(text.as_slice(), Status::Done, out),
@@ -122,9 +113,8 @@ fn run<F: Files, O: Out>(
     rules: &Rules,
 ) -> Status
     ensures files { SameContent (F.seen files.old) (F.seen files.new) }
-    ensures answered { Answered (map (λ e. stated_rule e.kind e.template ((⟦<dyn Rule as Rule>⟧
-        e.rule.vtable).says_down e.rule.value) ((⟦<dyn Rule as Rule>⟧ e.rule.vtable).says_up
-        e.rule.value)) rules.now.entries) (words_of words.now) (world (F.seen files.old) (O.seen out.old))
+    ensures answered { Answered (⟦<Rules as Stating>⟧.stated rules.now) (words_of words.now) (world
+        (F.seen files.old) (O.seen out.old))
         (world (F.seen files.new) (O.seen out.new)) result }
 {
     let Some(name) = design_of(words) else {
@@ -149,13 +139,11 @@ pub fn soc<F: Files, O: Out>(
     rules: &Rules,
 ) -> Status
     ensures files { SameContent (F.seen files.old) (F.seen files.new) }
-    ensures answered { Answered (map (λ e. stated_rule e.kind e.template ((⟦<dyn Rule as Rule>⟧
-        e.rule.vtable).says_down e.rule.value) ((⟦<dyn Rule as Rule>⟧ e.rule.vtable).says_up
-        e.rule.value)) rules.now.entries) (words_of words.now) (world (F.seen files.old) (O.seen out.old))
+    ensures answered { Answered (⟦<Rules as Stating>⟧.stated rules.now) (words_of words.now) (world
+        (F.seen files.old) (O.seen out.old))
         (world (F.seen files.new) (O.seen out.new)) result }
-    ensures completed { Completed (map (λ e. stated_rule e.kind e.template ((⟦<dyn Rule as Rule>⟧
-        e.rule.vtable).says_down e.rule.value) ((⟦<dyn Rule as Rule>⟧ e.rule.vtable).says_up
-        e.rule.value)) rules.now.entries) (words_of words.now) (world (F.seen files.old) (O.seen out.old))
+    ensures completed { Completed (⟦<Rules as Stating>⟧.stated rules.now) (words_of words.now) (world
+        (F.seen files.old) (O.seen out.old))
         (world (F.seen files.new) (O.seen out.new)) result }
 {
     run(alloc, words, files, out, rules)

@@ -4,7 +4,7 @@ ghost use Rattle.dip_sets.specs.Names.{is_name};
 ghost use Rattle.tl_rules.specs.Standard.{kinds_by, sides, standard};
 
 use dip_lists::{Items, Memory};
-use dip_rule::{Rule, RuleEntries, RuleEntry, RuleFault, Rules};
+use dip_rule::{Rule, RuleEntries, RuleEntry, RuleFault, Rules, Stating};
 use dip_sets::Name;
 use std::alloc::Global;
 use tl_params::{Args, DownPort, Template, UpPort};
@@ -52,8 +52,7 @@ pub fn standard_rules(
     shrinker: Box<dyn Rule>,
     xbar: Box<dyn Rule>,
 ) -> Result<Rules, Memory>
-    ensures { IfOk result (λ rules. map (λ e. stated_rule e.kind e.template (says_down e.rule)
-        (says_up e.rule)) rules.entries ≡ kinds_by (sides (says_down buffer) (says_up buffer))
+    ensures { IfOk result (λ rules. ⟦<Rules as Stating>⟧.stated rules ≡ kinds_by (sides (says_down buffer) (says_up buffer))
         (sides (says_down width) (says_up width)) (sides (says_down fragmenter) (says_up fragmenter))
         (sides (says_down shrinker) (says_up shrinker)) (sides (says_down xbar) (says_up xbar))) }
 {
