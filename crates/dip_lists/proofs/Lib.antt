@@ -1,3 +1,4 @@
 pub mod Firsts
 pub mod FirstFailures
 pub mod Pairs
+pub mod Tests

@@ -14,6 +14,9 @@ pub struct Items<T> {
     items: Vec<T>,
 }
 
+/// Bytes in order.
+pub type Bytes = Items<u8>;
+
 impl<T> Model for Items<T> {
     ghost use Rattle.std.specs.Prelude.{List};
     ghost use Rattle.std.specs.Coded.{coded_list};

@@ -13,6 +13,6 @@ mod tests;
 pub use duplicate::{Duplicate, duplicate_items};
 pub use few::Few;
 pub use first::first_failing_law;
-pub use items::{Items, MOST_ITEMS};
+pub use items::{Bytes, Items, MOST_ITEMS};
 pub use memory::Memory;
 pub use same::{Same, same_items};

@@ -1,17 +1,10 @@
 //! The program `soc`: the top call over real files and standard output.
 #![tactic(auto)]
 
-#[cfg(test)]
-mod hostile;
-mod laws;
-#[cfg(test)]
-mod tests;
-mod top;
-
-use crate::top::soc;
 use dip_io::{RealFiles, RealOut};
 use dip_lists::Memory;
 use soc_report::Status;
+use soc_top::soc;
 use std::env;
 use std::process::ExitCode;
 use tl_rules::boxed_standard_rules;

@@ -6,10 +6,9 @@ ghost use Rattle.tl_params.specs.Arguments.{fragment_arguments, shrink_argument}
 use crate::fit_xbar::{inputs_fit, outputs_fit};
 use crate::fragmenter::{fragment_arguments, up_to_piece};
 use crate::shrinker::shrink_argument;
-use crate::width::is_width;
 use dip_lists::Same;
 use dip_sets::Sizes;
-use tl_params::{Args, DownPort, Master, Ops, Slave, Template, UpPort};
+use tl_params::{Args, DownPort, Master, Ops, Slave, Template, UpPort, is_width};
 
 // Sizes that are cut into pieces fit those behind the cut.
 fn fits_pieces(pieces: &Sizes, sizes: &Sizes, real: &Sizes) -> bool

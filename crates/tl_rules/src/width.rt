@@ -1,20 +1,12 @@
 ghost use Rattle.std.specs.Prelude.{◌≡◌, IfOk};
 ghost use Rattle.dip_rule.specs.Stated.{Answers};
-ghost use Rattle.tl_params.specs.Arguments as arguments;
 ghost use Rattle.tl_rules.specs.Adapters as spec;
 
 use crate::ports::only;
 use dip_lists::{Duplicate, Memory};
 use dip_rule::RuleFault;
 use std::alloc::Global;
-use tl_params::{Args, DownPort, UpPort, copy_down};
-
-/// Whether a bus may have this width, in bytes.
-pub fn is_width(bytes: u32) -> bool
-    ensures { result ≡ arguments.is_width bytes }
-{
-    matches!(bytes, 1 | 2 | 4 | 8)
-}
+use tl_params::{Args, DownPort, UpPort, copy_down, is_width};
 
 // The only argument, where it is a width.
 fn width_argument(args: &Args) -> Option<u32>

@@ -1,5 +1,0 @@
-use Rattle.soc_program.proofs.Ordered.{first_of_all}
-use Rattle.soc_program.proofs.laws.first_of_all_law.Goals as goal
-
-pub returns : goal.returns
-returns c = first_of_all

@@ -1,5 +1,0 @@
-use Rattle.soc_program.proofs.Arms.{completed}
-use Rattle.soc_program.proofs.top.soc.Goals as goal
-
-pub returns-clause-completed : goal.returns-clause-completed
-returns-clause-completed g c = completed _ _ _ _ _ c.run.ensures.answered

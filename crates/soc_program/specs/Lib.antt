@@ -1,6 +1,0 @@
-pub mod Words
-pub mod Designs
-pub mod FirstOfAll
-pub mod Printing
-pub mod Answers
-pub mod TestRules

@@ -1,9 +1,0 @@
-ghost use Rattle.soc_program.specs.FirstOfAll.{FirstOfAllLaw};
-
-/// What the check means that a refusal names, for all bytes of a design file and all rules.
-///
-/// Of all that fail among the checks 1 to 18 it has the lowest number, and within that the lowest subject.
-/// Where none is named, nothing fails.
-pub fn first_of_all_law()
-    ensures { FirstOfAllLaw }
-{}

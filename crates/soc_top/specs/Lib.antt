@@ -1,0 +1,5 @@
+pub mod Words
+pub mod Designs
+pub mod FirstOfAll
+pub mod Printing
+pub mod Answers

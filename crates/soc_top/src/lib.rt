@@ -1,0 +1,8 @@
+//! The top call, over files, an output and rules that the caller hands in.
+#![tactic(auto)]
+
+mod laws;
+mod top;
+
+pub use laws::first_of_all_law;
+pub use top::soc;
