@@ -8,8 +8,8 @@ use crate::ids::{IdRange, IdRanges};
 use dip_lists::{Items, Memory};
 use std::alloc::Global;
 
-// The least power of two that isn't below the count.
-fn rounded_up(count: u32) -> u32
+/// The least power of two that isn't below the count: 1 for 0 and for 1.
+pub fn rounded_up(count: u32) -> u32
     requires { count ≤ 1024 }
     ensures value { result ≡ rounded count }
     ensures small { result ≤ 1024 }
@@ -29,7 +29,10 @@ fn rounded_counts(alloc: Global, counts: &[u32]) -> Result<Items<u32>, Memory>
     Ok(list)
 }
 
-fn goes_first(own: u32, place: usize, other: u32, at: usize) -> bool
+/// Whether the range of a rounded count goes before that of another one: it is the larger of the two, or
+/// they are equal and it stands earlier. `own` and `place` are of the range that is placed, `other` and `at`
+/// of the one that may go before it.
+pub fn goes_first(own: u32, place: usize, other: u32, at: usize) -> bool
     ensures { result ≡ goes_first own place other at }
 {
     own < other || (own == other && at < place)
