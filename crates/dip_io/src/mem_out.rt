@@ -1,6 +1,4 @@
 ghost use Rattle.std.specs.Prelude.{◌≡◌, ◌<◌, ◌≤◌, ◌++◌, [], length, min, take, IfOk, OnOk, OnErr};
-ghost use Rattle.dip_io.specs.Counting.{FailsNext, after_call, after_fault, failing_at, no_calls};
-ghost use Rattle.dip_io.specs.InMemory.{most_of, out_seen, puts_on, written_to};
 
 use crate::calls::Calls;
 use crate::{Failed, Out};
@@ -17,6 +15,9 @@ pub struct MemOut {
 }
 
 impl MemOut {
+    ghost use Rattle.dip_io.specs.Counting.{failing_at, no_calls};
+    ghost use Rattle.dip_io.specs.InMemory.{most_of, puts_on, written_to};
+
     /// Nothing written, no put made, and none that is to fail. One `put` takes at most `most` bytes.
     pub fn new(alloc: Global, most: usize) -> MemOut
         requires { 0 < most }
@@ -50,6 +51,9 @@ impl MemOut {
 }
 
 impl Out for MemOut {
+    ghost use Rattle.dip_io.specs.Counting.{FailsNext, after_call, after_fault};
+    ghost use Rattle.dip_io.specs.InMemory.{most_of, out_seen, puts_on, written_to};
+
     ghost seen = { out_seen };
 
     fn put(&mut self, bytes: &[u8]) -> Result<usize, Failed>

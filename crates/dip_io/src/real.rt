@@ -87,11 +87,7 @@ fn load_file<R: rt::Files>(
 /// Appends the first `max` bytes that a source gives, or all where it gives fewer.
 ///
 /// `Failed` comes where a read has failed. After a refusal `into` is as before.
-pub fn read_first<S: Read>(
-    source: &mut S,
-    max: usize,
-    into: &mut Vec<u8>,
-) -> Result<(), LoadFault>
+pub fn read_first<S: Read>(source: &mut S, max: usize, into: &mut Vec<u8>) -> Result<(), LoadFault>
     ensures ok { OnOk result (TakesFirst max (S.remaining source.old) into.old.items into.new.items) }
     ensures refused { OnErr result (into.new.items ≡ into.old.items) }
 {
