@@ -1,5 +1,5 @@
--- What the engine computes: a cell as a step of the machine, and the values of all nets after some steps. Only functions
--- that aren't public cite it.
+-- What the engine computes: a cell as a step of the machine, and the values of all nets after some steps.
+-- Only functions that aren't public cite it.
 use Rattle.std.specs.Prelude.{ℕ, ◌+◌, ◌-◌, ◌*◌, ◌/◌, ◌%◌, ◌^◌, ◌<◌, nat_lt, ◌==◌, if◌then◌else◌, List, [], ◌∷◌, slice_index, slice_set, bit_and, bit_or, bit_xor}
 use Rattle.net_cells.specs.declared.netlist.CellOp.{CellOp}
 use Rattle.net_cells.specs.declared.netlist.CellOp.TheVariants as op

@@ -122,8 +122,8 @@ fn depends_on_itself(alloc: Global, netlist: &Netlist, start: u64) -> Result<boo
     Ok(reach.seen[start as usize])
 }
 
-/// The least net that depends on itself through cells; `None` where there is none. Takes time that grows with
-/// the square of the number of cells.
+/// The least net that depends on itself through cells; `None` where there is none. Takes time that grows
+/// with the square of the number of cells.
 pub fn least_loop(alloc: Global, netlist: &Netlist) -> Result<Option<u64>, Memory>
     requires { IsWellFormed netlist.now }
     ensures { IfOk result (λ found. MatchOption found (HasNoLoop netlist.now) (IsLeastLoop netlist.now)) }

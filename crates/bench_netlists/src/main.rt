@@ -1,4 +1,4 @@
-//! The program `soc_bench`: pieces of work on made input, for measuring.
+//! The program `bench_netlists`: pieces of work on made input, for measuring.
 #![tactic(auto)]
 
 mod made;
@@ -7,7 +7,8 @@ mod run;
 use std::env;
 use std::process::ExitCode;
 
-const USAGE: &str = "usage: soc_bench WORK CELLS TIMES .., where WORK is engine, print or read";
+const USAGE: &str =
+    "usage: bench_netlists WORK CELLS TIMES .., where WORK is engine, print or read";
 
 /// What can be done with a made netlist.
 #[derive(Debug, Clone, Copy)]
@@ -30,6 +31,7 @@ struct Piece {
     times: u64,
 }
 
+// The work with this name.
 fn work_named(name: &str) -> Option<Work> {
     match name {
         "engine" => Some(Work::Engine),
@@ -39,7 +41,7 @@ fn work_named(name: &str) -> Option<Work> {
     }
 }
 
-/// The piece of work that three words ask for; `None` where they ask for nothing that there is.
+// The piece of work that three words ask for; `None` where they ask for nothing that there is.
 fn piece_of(words: &[String]) -> Option<Piece> {
     let [work, cells, times] = words else {
         return None;
@@ -54,7 +56,7 @@ fn piece_of(words: &[String]) -> Option<Piece> {
     })
 }
 
-/// Does a piece of work and prints its counts; `None` where that fails.
+// Does a piece of work and prints its counts; `None` where that fails.
 fn counted(rt: &HostRuntime, piece: Piece) -> Option<()> {
     let Piece { work, cells, times } = piece;
     match work {
@@ -73,6 +75,7 @@ fn counted(rt: &HostRuntime, piece: Piece) -> Option<()> {
     }
 }
 
+// The words that the program is started with, its own name aside.
 fn words_of(rt: &HostRuntime) -> Option<Vec<String>> {
     let mut words = Vec::new(rt.alloc());
     for word in env::args(rt).ok()?.skip(1) {
@@ -86,7 +89,7 @@ fn usage(rt: &HostRuntime) -> u8 {
     2
 }
 
-/// Does the pieces of work that words ask for, three words each.
+// Does the pieces of work that words ask for, three words each.
 fn status(rt: &HostRuntime, words: &[String]) -> u8 {
     if words.is_empty() {
         return usage(rt);

@@ -1,5 +1,5 @@
 use Rattle.std.proofs.Common.{◌≡◌, length}
-use Rattle.soc_bench.proofs.run.cycles.Given as goal
+use Rattle.bench_netlists.proofs.run.cycles.Given as goal
 
 abbrev pub invariant-loop : goal.invariant-loop
 invariant-loop l = record {

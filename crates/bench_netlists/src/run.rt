@@ -7,7 +7,7 @@ use sim_engine::{Engine, EngineFault};
 use std::alloc::Global;
 use ver_text::{TextFault, print, read};
 
-/// Runs so many cycles of a netlist with one input and one output, with input 0.
+// Runs so many cycles of a netlist with one input and one output, with input 0.
 #[tactic(auto, using(crate::proofs::Zeros::zero_fits))]
 fn cycles(engine: &mut Engine, count: u64)
     requires input { length engine.old.netlist.inputs ≡ 1 }

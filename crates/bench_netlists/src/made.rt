@@ -16,7 +16,7 @@ impl Draws {
         self.state >> 33
     }
 
-    /// One of some numbers; 0 where there is none.
+    // One of some numbers; 0 where there is none.
     fn pick(&mut self, numbers: &[u64]) -> u64 {
         let place = self.next().checked_rem(numbers.len() as u64).unwrap_or(0);
         numbers.get(place as usize).copied().unwrap_or(0)
@@ -35,6 +35,7 @@ struct Pools {
 }
 
 impl Pools {
+    // One more net of this width.
     fn add(&mut self, net: u64, width: u32) -> Result<(), Memory> {
         match width {
             1 => self.bits.push(net)?,
@@ -49,7 +50,7 @@ fn cell(width: u32, op: CellOp) -> Cell {
     Cell { width, op }
 }
 
-/// A cell of one of the twelve operators over nets that were made before.
+// A cell of one of the twelve operators over nets that were made before.
 fn drawn(draws: &mut Draws, pools: &Pools) -> Cell {
     let x = draws.pick(pools.wides.as_slice());
     let y = draws.pick(pools.wides.as_slice());
@@ -69,12 +70,14 @@ fn drawn(draws: &mut Draws, pools: &Pools) -> Cell {
     }
 }
 
+// Two nets of 16 bits joined.
 fn halves_joined(draws: &mut Draws, pools: &Pools) -> Cell {
     let high = draws.pick(pools.halves.as_slice());
     let low = draws.pick(pools.halves.as_slice());
     cell(32, CellOp::Concat(high, low))
 }
 
+// Sixteen bits of a net of 32.
 fn half_of(draws: &mut Draws, net: u64) -> Cell {
     let lo = (draws.next() % 17) as u32;
     let hi = lo + 15;
@@ -85,7 +88,7 @@ fn name(alloc: Global, text: &str) -> Result<Name, Memory> {
     Name::new(alloc, text)?.ok_or(Memory)
 }
 
-/// The cells, behind so many registers; the first one makes a net of 16 bits.
+// The cells, behind so many registers; the first one makes a net of 16 bits.
 fn cells_of(
     alloc: Global,
     draws: &mut Draws,
@@ -106,7 +109,7 @@ fn cells_of(
     Ok(list)
 }
 
-/// Registers of 32 bits that take nets of that width.
+// Registers of 32 bits that take nets of that width.
 fn regs_of(
     alloc: Global,
     draws: &mut Draws,
