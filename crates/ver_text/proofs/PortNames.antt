@@ -5,7 +5,7 @@ use Rattle.std.proofs.lemmas.Bool.{cases_Bool}
 use Rattle.std.proofs.lemmas.Slice.Eq.{bytes_eq-Decides}
 use Rattle.dip_names.specs.Numbers.{is_named, number_from}
 use Rattle.net_cells.specs.declared.netlist.Port.{Port}
-use Rattle.ver_text.specs.Due.{place_from, is_new}
+use Rattle.ver_text.specs.Due.{port_place_from, is_new}
 
 abbrev pub names_of : List Port → List (List ℕ)
 names_of ports = map (λ (p : Port). p.name) ports
@@ -19,7 +19,7 @@ either_way a b = elim (cases_Bool (bytes_eq a b)) [
   ]
 ]
 
-pub place_by_name : (at : ℕ) (ports : List Port) (name : List ℕ) → number_from at (names_of ports) name ≡ place_from at name ports
+pub place_by_name : (at : ℕ) (ports : List Port) (name : List ℕ) → number_from at (names_of ports) name ≡ port_place_from at name ports
 place_by_name at [] name = refl
 place_by_name at (port ∷ ports) name = rw (either_way name port.name, place_by_name (at + 1) ports name) refl
 
@@ -51,6 +51,6 @@ new_told has names ports now text name h e f g =
     ap not h ∙ ap (λ ns. not (is_named ns text)) e ∙ ap (λ n. not (is_named (names_of ports) n)) g ∙ new_by_name ports name ∙ sym (ap (λ ps. is_new ps name) f)
 
 pub place_told : (place : Option ℕ) (names : List (List ℕ)) (ports now : List Port) (text name : List ℕ) → place ≡ number_from 0 names text → names ≡ names_of ports → now ≡ ports → text ≡ name
-    → place ≡ place_from 0 name now
+    → place ≡ port_place_from 0 name now
 place_told place names ports now text name h e f g =
-    h ∙ ap (λ ns. number_from 0 ns text) e ∙ ap (λ n. number_from 0 (names_of ports) n) g ∙ place_by_name 0 ports name ∙ sym (ap (λ ps. place_from 0 name ps) f)
+    h ∙ ap (λ ns. number_from 0 ns text) e ∙ ap (λ n. number_from 0 (names_of ports) n) g ∙ place_by_name 0 ports name ∙ sym (ap (λ ps. port_place_from 0 name ps) f)
