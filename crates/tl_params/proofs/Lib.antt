@@ -1,1 +1,3 @@
 mod OwnedBy
+pub mod Greatest
+mod Carrying
