@@ -1,1 +1,2 @@
 mod OwnedBy
+pub mod OneOwner

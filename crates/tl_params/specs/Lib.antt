@@ -3,3 +3,4 @@ pub mod Carried
 pub mod Operations
 pub mod OwnerLaw
 pub mod Owners
+pub mod Apart
