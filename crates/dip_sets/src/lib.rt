@@ -7,8 +7,6 @@ mod name;
 mod region;
 mod set;
 mod sizes;
-#[cfg(test)]
-mod tests;
 
 pub use assign::{assign_ranges, goes_first, rounded_up};
 pub use ids::{IdRange, IdRanges};
