@@ -8,8 +8,7 @@ use Rattle.dip_sets.specs.Sets.{Pattern, InSome, Disjoint}
 use Rattle.tl_params.specs.declared.ports.Slave.{Slave}
 use Rattle.tl_params.specs.declared.ports.UpPort.{UpPort}
 use Rattle.tl_params.specs.Owners.{sets_of}
-use Rattle.dip_checks.specs.Apart.{HasDisjointSets, HasOneOwnerEach}
-use Rattle.dip_checks.specs.Laws.{OneOwnerLaw}
+use Rattle.tl_params.specs.Apart.{HasDisjointSets, HasOneOwnerEach, OneOwnerLaw}
 
 -- an element of a list and one of the list behind it
 across : {X : Type 0} (R : X → X → Type 0) (xs ys : List X) (x y : X) → AllPairs R (xs ++ ys) → Contains xs x → Contains ys y → R x y
