@@ -5,7 +5,7 @@ use Rattle.toml.specs.View.{items_view}
 use Rattle.dip_lists.specs.First.{first}
 use Rattle.soc_design.specs.Stated.{all_of, bind_of}
 use Rattle.soc_design.specs.Reading.{failing, bind_is_unnamed}
-use Rattle.soc_design.proofs.names.stated_binds.Given as goal
+use Rattle.soc_design.proofs.names.binds_of.Given as goal
 
 abbrev pub invariant-loop-place : goal.invariant-loop-place
 invariant-loop-place l =

@@ -7,7 +7,7 @@ use Rattle.dip_lists.specs.First.{first}
 use Rattle.soc_design.specs.Stated.{all_of, node_of, placed_node, names_at}
 use Rattle.soc_design.specs.Standing.{IsWithinLimits}
 use Rattle.soc_design.specs.Reading.{failing, node_is_unnamed}
-use Rattle.soc_design.proofs.names.stated_nodes.Given as goal
+use Rattle.soc_design.proofs.names.nodes_of.Given as goal
 
 abbrev pub invariant-loop-place : goal.invariant-loop-place
 invariant-loop-place l =

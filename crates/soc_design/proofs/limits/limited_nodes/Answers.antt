@@ -6,7 +6,7 @@ use Rattle.soc_design.specs.Stated as spec
 use Rattle.soc_design.specs.Reading.{node_is_beyond, most_nodes}
 use Rattle.soc_design.proofs.Failing.{passes}
 use Rattle.soc_design.proofs.Stating.{states_more, within, one_more}
-use Rattle.soc_design.proofs.limits.stated_nodes.Goals as goal
+use Rattle.soc_design.proofs.limits.limited_nodes.Goals as goal
 
 pub loop-place-preserved : goal.loop-place-preserved
 loop-place-preserved c =

@@ -6,7 +6,7 @@ use Rattle.std.specs.Prelude.{All}
 use Rattle.soc_design.specs.Standing.{IsWithinLimits}
 use Rattle.soc_design.specs.Stated as spec
 use Rattle.soc_design.specs.Reading.{failing, node_is_beyond}
-use Rattle.soc_design.proofs.limits.stated_nodes.Given as goal
+use Rattle.soc_design.proofs.limits.limited_nodes.Given as goal
 
 abbrev pub invariant-loop-place : goal.invariant-loop-place
 invariant-loop-place l =

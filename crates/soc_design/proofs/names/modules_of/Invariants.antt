@@ -5,7 +5,7 @@ use Rattle.dip_lists.specs.First.{first}
 use Rattle.soc_design.specs.Stated.{each_of, module_at, names_at, modules_of}
 use Rattle.soc_design.specs.Standing.{IsTree}
 use Rattle.soc_design.specs.Reading.{failing, module_is_unnamed}
-use Rattle.soc_design.proofs.names.stated_modules.Given as goal
+use Rattle.soc_design.proofs.names.modules_of.Given as goal
 
 abbrev pub invariant-loop-place : goal.invariant-loop-place
 invariant-loop-place l =
