@@ -30,7 +30,11 @@ LoadFails name files = FailsNext (calls_on files) ⊎ (held_by files name ≡ No
 
 -- everything is told, with one count of faults for all names
 abbrev pub files_seen : MemFiles → FilesSeen
-files_seen files = record { content = λ name. Some (held_by files name); loads = λ _. files.calls.failed; saves = λ _. files.calls.failed }
+files_seen files = record {
+  content = λ name. Some (held_by files name);
+  loads = λ _. files.calls.failed;
+  saves = λ _. files.calls.failed;
+}
 
 -- the bytes written so far
 abbrev pub written_to : MemOut → List ℕ

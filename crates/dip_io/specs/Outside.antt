@@ -54,7 +54,8 @@ Appends P before now = (take (length before) now ≡ before) × P (drop (length 
 abbrev pub Loads : ℕ → List ℕ → FilesSeen → List ℕ → List ℕ → Type 0
 Loads max name files before now = Appends (AreFirst max (files.content name)) before now
 
--- a list is longer by the first `max` bytes that a source had left, or all where they are fewer, as far as they are known
+-- a list is longer by the first `max` bytes that a source had left, or all where they are fewer, as far as they are
+-- known
 abbrev pub TakesFirst : ℕ → Option (List ℕ) → List ℕ → List ℕ → Type 0
 TakesFirst max left before now = Appends (AreFirst max (option_map (λ all. Some all) left)) before now
 

@@ -1,5 +1,5 @@
 ghost use Rattle.std.specs.Prelude.{◌≡◌, ◌≤◌, ◌↔◌, IsTrue, OnOk, OnErr};
-ghost use Rattle.dip_io.specs.Counting.{FailsNext, after_call, failing_at, next_count, no_calls};
+ghost use Rattle.dip_io.specs.Counting.{FailsNext, after_call, failing_at, raised, no_calls};
 
 use dip_lists::{Items, Memory};
 use std::alloc::Global;
@@ -46,7 +46,7 @@ impl Calls {
 
     /// Counts a call as failed.
     pub fn count_failure(&mut self)
-        ensures counted { self.new ≡ record self.old { failed = next_count self.old.failed } }
+        ensures counted { self.new ≡ record self.old { failed = raised self.old.failed } }
         ensures later { self.old.failed ≤ self.new.failed }
     {
         self.failed = self.failed.saturating_add(1);

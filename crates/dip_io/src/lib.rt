@@ -15,7 +15,4 @@ pub use mem_files::MemFiles;
 pub use mem_out::MemOut;
 pub use out::Out;
 pub use put::put_all;
-pub use real::{RealFiles, RealOut};
-
-#[cfg(test)]
-mod tests;
+pub use real::{RealFiles, RealOut, read_first};

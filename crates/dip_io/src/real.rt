@@ -1,7 +1,7 @@
 ghost use Rattle.std.specs.Prelude.{◌≡◌, ◌<◌, ◌≤◌, ◌+◌, drop, length, IfOk, OnOk, OnErr};
 ghost use Rattle.std.specs.Io.{StartsWith};
 ghost use Rattle.std.specs.Io.KnownBytes.{Consumes, IsAtEnd};
-ghost use Rattle.dip_io.specs.Counting.{next_count};
+ghost use Rattle.dip_io.specs.Counting.{raised};
 ghost use Rattle.dip_io.specs.Outside.{Appends, Loads, TakesFirst, untold_files, untold_out};
 
 use crate::{Failed, Files, LoadFault, Out};
@@ -11,7 +11,7 @@ use std::marker::Model;
 use std::rt;
 
 // How many bytes of a file are read at once.
-const CHUNK: usize = 4096;
+const CHUNK: usize = 65_536;
 
 /// The files of the system, of which nothing is told. Contracts see how many of their calls have failed.
 #[derive(Drop)]
@@ -43,7 +43,7 @@ impl<R: rt::Files + Drop> Files for RealFiles<R> {
     fn load(&mut self, name: &str, max: usize, into: &mut Vec<u8>) -> Result<(), LoadFault>
         ensures ok { OnOk result (Loads max name.now (untold_files self.old) into.old.items into.new.items) }
         ensures refused { OnErr result (into.new.items ≡ into.old.items) }
-        ensures failed { OnErr result (self.new ≡ next_count self.old) }
+        ensures failed { OnErr result (self.new ≡ raised self.old) }
         ensures passed { OnOk result (self.new ≡ self.old) }
         ensures later { self.old ≤ self.new }
     {
@@ -55,7 +55,7 @@ impl<R: rt::Files + Drop> Files for RealFiles<R> {
     }
 
     fn save(&mut self, name: &str, bytes: &[u8]) -> Result<(), Failed>
-        ensures failed { OnErr result (self.new ≡ next_count self.old) }
+        ensures failed { OnErr result (self.new ≡ raised self.old) }
         ensures passed { OnOk result (self.new ≡ self.old) }
         ensures later { self.old ≤ self.new }
     {
@@ -67,6 +67,8 @@ impl<R: rt::Files + Drop> Files for RealFiles<R> {
     }
 }
 
+// Appends the first `max` bytes of the named file, or all where it is shorter. After a refusal `into` is as
+// before.
 fn load_file<R: rt::Files>(
     rt: &R,
     name: &str,
@@ -82,13 +84,10 @@ fn load_file<R: rt::Files>(
     }
 }
 
-// Appends the first `max` bytes that a source gives, or all where it gives fewer.
-// After a refusal `into` is as before.
-pub(crate) fn read_first<S: Read>(
-    source: &mut S,
-    max: usize,
-    into: &mut Vec<u8>,
-) -> Result<(), LoadFault>
+/// Appends the first `max` bytes that a source gives, or all where it gives fewer.
+///
+/// `Failed` comes where a read has failed. After a refusal `into` is as before.
+pub fn read_first<S: Read>(source: &mut S, max: usize, into: &mut Vec<u8>) -> Result<(), LoadFault>
     ensures ok { OnOk result (TakesFirst max (S.remaining source.old) into.old.items into.new.items) }
     ensures refused { OnErr result (into.new.items ≡ into.old.items) }
 {
@@ -168,7 +167,7 @@ impl<R: Print + Drop> Out for RealOut<R> {
     fn put(&mut self, bytes: &[u8]) -> Result<usize, Failed>
         ensures within { IfOk result (λ count. count ≤ length bytes.now) }
         ensures some { IfOk result (λ count. 0 < length bytes.now → 0 < count) }
-        ensures failed { OnErr result (self.new ≡ next_count self.old) }
+        ensures failed { OnErr result (self.new ≡ raised self.old) }
         ensures passed { OnOk result (self.new ≡ self.old) }
         ensures later { self.old ≤ self.new }
     {

@@ -1,8 +1,8 @@
 -- The first failure of checks in order comes before the others.
-use Rattle.std.proofs.Common.{◌≡◌, ℕ, zero, suc, ◌<◌, ◌⊎◌, inl, inr, ⊎_elim, List, [], ◌∷◌, Option, Some, None, refl, sym, ◌∙◌, ap, subst, arith, unwrap_or}
-use Rattle.std.specs.Prelude.{All, AllPairs, Contains}
+use Rattle.std.proofs.Common.{◌≡◌, ℕ, ◌<◌, ◌⊎◌, inl, inr, ⊎_elim, List, [], ◌∷◌, Option, Some, None, refl, sym, ◌∙◌, ap, subst, arith, unwrap_or}
+use Rattle.std.specs.Prelude.{AllPairs, Contains}
 use Rattle.std.specs.Option.{option_map, option_or}
-use Rattle.std.proofs.lemmas.List.Elements.{All-head, All-tail, All-contains, Contains-push, Contains-push_cases, Contains-append_left, Contains-append_right, Contains-append_cases}
+use Rattle.std.proofs.lemmas.List.Elements.{All-head, All-tail, All-contains, Contains-push, Contains-append_left, Contains-append_right}
 use Rattle.dip_lists.proofs.Pairs.{nowhere, within_cases, behind, rest_pairs}
 use Rattle.dip_lists.specs.First.{Check, Failure, first, failure_of, first_failing}
 use Rattle.dip_lists.specs.FirstLaw.{Fails, IsBefore, Precedes, HasRisingSubjects, AreInOrder, IsFirstFailure, FirstLaw}

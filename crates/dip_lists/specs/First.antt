@@ -7,6 +7,7 @@ pub record Check : Type 0 where
   pub number : ℕ
   pub failing : List ℕ
 
+-- the check with this number and these failing subjects
 abbrev pub check : ℕ → List ℕ → Check
 check number subjects = record { number = number; failing = subjects }
 
@@ -15,10 +16,12 @@ pub record Failure : Type 0 where
   pub number : ℕ
   pub subject : ℕ
 
+-- the first of some subjects, if there is one
 abbrev pub first : List ℕ → Option ℕ
 first [] = None
 first (subject ∷ subjects) = Some subject
 
+-- the failure of a check with this number at this subject
 abbrev pub failure_of : ℕ → ℕ → Failure
 failure_of number subject = record { number = number; subject = subject }
 
@@ -30,4 +33,5 @@ first_failing (c ∷ checks) = option_or (option_map (failure_of c.number) (firs
 -- the subjects, counted from a first one, at which a test fails; the test sees a subject's number and the item itself
 abbrev pub places : {A : Type 0} → (ℕ → A → Bool) → ℕ → List A → List ℕ
 places fails subject [] = []
-places fails subject (x ∷ xs) = cond (fails subject x) (subject ∷ places fails (subject + 1) xs) (places fails (subject + 1) xs)
+places fails subject (x ∷ xs) =
+    cond (fails subject x) (subject ∷ places fails (subject + 1) xs) (places fails (subject + 1) xs)

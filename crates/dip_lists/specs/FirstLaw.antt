@@ -13,11 +13,13 @@ pub record Fails (checks : List Check) (failure : Failure) : Type 0 where
 abbrev pub IsBefore : Failure → Failure → Type 0
 IsBefore a b = (a.number < b.number) ⊎ ((a.number ≡ b.number) × (a.subject < b.subject))
 
--- a check comes before another one: its number is lower, or the numbers are equal and all of its failing subjects are lower
+-- a check comes before another one: its number is lower, or the numbers are equal and all of its failing subjects are
+-- lower
 abbrev pub Precedes : Check → Check → Type 0
 Precedes a b =
     (a.number < b.number)
-    ⊎ ((a.number ≡ b.number) × ((subject later : ℕ) → Contains a.failing subject → Contains b.failing later → subject < later))
+    ⊎ ((a.number ≡ b.number)
+    × ((subject later : ℕ) → Contains a.failing subject → Contains b.failing later → subject < later))
 
 -- the subjects at which a check fails rise
 abbrev pub HasRisingSubjects : Check → Type 0
@@ -35,5 +37,6 @@ pub record IsFirstFailure (checks : List Check) (failure : Failure) : Type 0 whe
 
 -- where `first_failing` answers a failure, that one is the first; where it answers none, nothing fails
 pub record FirstLaw : Type 0 where
-  pub some : (checks : List Check) (failure : Failure) → AreInOrder checks → first_failing checks ≡ Some failure → IsFirstFailure checks failure
+  pub some : (checks : List Check) (failure : Failure) → AreInOrder checks → first_failing checks ≡ Some failure
+      → IsFirstFailure checks failure
   pub none : (checks : List Check) (failure : Failure) → first_failing checks ≡ None → Fails checks failure → ⊥

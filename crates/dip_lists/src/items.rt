@@ -1,4 +1,4 @@
-ghost use Rattle.std.specs.Prelude.{◌≡◌, ◌↔◌, [], ◌∷◌, ◌++◌, length, slice_get, IsTrue, IfOk, OnOk, OnErr};
+ghost use Rattle.std.specs.Prelude.{◌≡◌, ◌<◌, ◌↔◌, [], ◌∷◌, ◌++◌, length, slice_get, IsTrue, IfOk, OnOk, OnErr};
 ghost use Rattle.std.specs.Option.{option_copied};
 
 use crate::Memory;
@@ -95,6 +95,7 @@ impl<T: Drop> Items<T> {
     /// Adds an item at the end of a list that a small file can make long: with `MOST_ITEMS` items it answers
     /// `Memory`. After `Memory` the list is as before, and the item is dropped.
     pub fn push_bounded(&mut self, item: T) -> Result<(), Memory>
+        ensures bounded { OnOk result (length self.old < 1048576) }
         ensures ok { OnOk result (self.new ≡ self.old ++ item ∷ []) }
         ensures err { OnErr result (self.new ≡ self.old) }
     {

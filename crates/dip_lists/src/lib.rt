@@ -7,8 +7,6 @@ mod first;
 mod items;
 mod memory;
 mod same;
-#[cfg(test)]
-mod tests;
 
 pub use duplicate::{Duplicate, duplicate_items};
 pub use few::Few;

@@ -4,6 +4,3 @@
 mod numbering;
 
 pub use numbering::Names;
-
-#[cfg(test)]
-mod tests;

@@ -1,15 +1,17 @@
-ghost use Rattle.std.specs.Prelude.{◌≡◌, [], ◌∷◌, ◌++◌, ◌<◌, length, false, IfSome, OnOk, OnErr};
-ghost use Rattle.dip_names.specs.Numbers.{is_named, number_of};
+ghost use Rattle.std.specs.Prelude.{◌≡◌, [], ◌∷◌, ◌++◌, ◌<◌, length, false, position, IfSome, OnOk, OnErr};
+ghost use Rattle.std.specs.List.{list_any};
+ghost use Rattle.std.specs.Str.{bytes_eq};
 
 use dip_lists::Memory;
 use indexmap::IndexMap;
 use std::alloc::Global;
 use std::marker::Model;
 
-/// Names by their numbers, which contracts see as the list of their bytes. No name stands twice.
+/// Names by their numbers, which contracts see as the list of their bytes, in the order of adding.
 #[derive(Drop)]
 pub struct Names {
     alloc: Global,
+    // The number of a name is its place; what the map keeps beside it is always 0.
     numbers: IndexMap<String, u32>,
 }
 
@@ -36,14 +38,14 @@ impl Names {
 
     /// Whether there is this name.
     pub fn has(&self, name: &str) -> bool
-        ensures { result ≡ is_named self.now name.now }
+        ensures { result ≡ list_any (bytes_eq name.now) self.now }
     {
         self.numbers.contains_key(name)
     }
 
-    /// The number of a name, counted from 0 in the order of adding.
+    /// The number of a name, counted from 0 in the order of adding; `None` exactly where there is none.
     pub fn number_of(&self, name: &str) -> Option<usize>
-        ensures value { result ≡ number_of self.now name.now }
+        ensures value { result ≡ position (bytes_eq name.now) self.now }
         ensures within { IfSome result (λ number. number < length self.now) }
     {
         self.numbers.get_index_of(name)
@@ -51,7 +53,7 @@ impl Names {
 
     /// Adds a name that isn't there yet. After `Memory` the names are as before.
     pub fn add(&mut self, name: &str) -> Result<(), Memory>
-        requires { is_named self.old name.now ≡ false }
+        requires { list_any (bytes_eq name.now) self.old ≡ false }
         ensures ok { OnOk result (self.new ≡ self.old ++ name.now ∷ []) }
         ensures err { OnErr result (self.new ≡ self.old) }
     {

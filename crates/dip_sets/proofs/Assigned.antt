@@ -1,13 +1,15 @@
 -- Ranges of ids for counts: rounded up, in order, and apart.
-use Rattle.std.proofs.Common.{ℕ, zero, suc, ◌≡◌, ◌+◌, ◌-◌, ◌*◌, ◌/◌, ◌^◌, ◌<◌, ◌≤◌, ◌⊎◌, inl, inr, max, List, [], ◌∷◌, length, get_or, map, Bool, true, false, cond, nat_le, Result, IfOk, Ok, Err, AllPairs, refl, ap, sym, ◌∙◌, arith, pow-suc, pow_pos, zero-add}
+use Rattle.std.proofs.Common.{ℕ, zero, suc, ◌≡◌, ◌+◌, ◌-◌, ◌*◌, ◌/◌, ◌%◌, ◌^◌, ◌<◌, ◌≤◌, ◌⊎◌, inl, inr, max, List, [], ◌∷◌, length, get_or, map, Bool, true, false, cond, nat_le, Result, IfOk, Ok, Err, All, AllPairs, refl, subst, ap, sym, ◌∙◌, arith, pow-suc, pow_pos, zero-add}
 use Rattle.std.specs.List.{AllZip}
 use Rattle.std.specs.Int.{IsNextPowerOfTwo}
-use Rattle.std.proofs.Math.Nat.{pow-le-pow_right}
+use Rattle.std.proofs.Math.Nat.{pow-le-pow_right, mul-mod_left, add-mul}
+use Rattle.std.proofs.lemmas.Nat.{pow-add}
+use Rattle.std.proofs.lemmas.List.Elements.{All-cons}
 use Rattle.std.proofs.lemmas.Bool.{cases_lt, leb-true, leb-false}
 use Rattle.std.proofs.lemmas.Bool.Decides.{nat_tests}
 use Rattle.dip_sets.specs.declared.ids.IdRange.{IdRange}
 use Rattle.dip_sets.specs.Ids.{DisjointIds}
-use Rattle.dip_sets.specs.Assignments.{power_from, rounded, goes_first, sum_before, range_at, ranges_from, IsRounded, HasRoom}
+use Rattle.dip_sets.specs.Assignments.{IsAligned, power_from, rounded, goes_first, sum_before, range_at, ranges_from, IsRounded, HasRoom}
 
 pub if_ok_same : {T E : Type 0} (r : Result T E) (y : T) (P : T → Type 0) → IfOk r (λ x. x ≡ y) → P y → IfOk r P
 if_ok_same (Ok x) y P e p = rw e p
@@ -119,7 +121,7 @@ range_place place k all [] d within = absurd (omega arith)
 range_place place zero all (r ∷ rs) d within = ap (λ j. range_at r j all) (omega arith)
 range_place place (suc k) all (r ∷ rs) d within = range_place (place + 1) k all rs d (omega arith) ∙ ap (λ j. range_at (get_or rs k 0) j all) (omega arith)
 
-ranges_length : (place : ℕ) (all rs : List ℕ) → length (ranges_from place all rs) ≡ length rs
+pub ranges_length : (place : ℕ) (all rs : List ℕ) → length (ranges_from place all rs) ≡ length rs
 ranges_length place all [] = refl
 ranges_length place all (r ∷ rs) = omega (arith, ranges_length (place + 1) all rs)
 
@@ -137,3 +139,68 @@ pub ranges_apart : (rs : List ℕ) → AllPairs DisjointIds (ranges_from 0 rs rs
 ranges_apart rs i j d before within =
     let count : j < length rs = omega (arith, ranges_length 0 rs rs) in
     rw (range_place 0 i rs rs d (omega arith), range_place 0 j rs rs d count, zero-add i, zero-add j) (apart_at i j rs before count)
+
+-- ---- a range begins at a multiple of its length
+
+abbrev Multiple : ℕ → ℕ → Type 0
+Multiple own n = (k : ℕ) × (n ≡ k * own)
+
+no_multiple : (own : ℕ) → Multiple own 0
+no_multiple own = (0, omega arith)
+
+add_multiples : (own m n : ℕ) → Multiple own m → Multiple own n → Multiple own (m + n)
+add_multiples own m n (j, e) (k, f) = (j + k, ap (λ x. x + n) e ∙ ap (λ x. j * own + x) f ∙ sym (add-mul j k own))
+
+power_multiple : (a b : ℕ) → a ≤ b → Multiple (2 ^ a) (2 ^ b)
+power_multiple a b h =
+    let e : b - a + a ≡ b = omega arith in
+    (2 ^ (b - a), ap (λ x. 2 ^ x) (sym e) ∙ pow-add 2 (b - a) a)
+
+le_exponents : (a b : ℕ) → 2 ^ a ≤ 2 ^ b → a ≤ b
+le_exponents a b h = elim (cases_lt b a) [
+  | inl lt ↦ let more : 2 ^ suc b ≤ 2 ^ a = pow-le-pow_right {n = 2} (omega arith) {i = suc b} {j = a} (omega arith) in absurd (omega (arith, pow-suc 2 b, pow_pos b))
+  | inr ge ↦ ge
+]
+
+before_le : (other at own place : ℕ) → IsBefore other at own place → own ≤ other
+unfolding IsBefore
+before_le other at own place h = grind arith
+
+abbrev pub ArePowers : List ℕ → Type 0
+ArePowers [] = Unit {0}
+ArePowers (x ∷ xs) = ((k : ℕ) × (x ≡ 2 ^ k)) × ArePowers xs
+
+pub powers_of : (counts : List ℕ) → ArePowers (map rounded counts)
+powers_of [] = tt
+powers_of (count ∷ counts) = ((rounded_is count).0, powers_of counts)
+
+part_multiple : (a place x at k : ℕ) → x ≡ 2 ^ k → Multiple (2 ^ a) (cond (goes_first (2 ^ a) place x at) x 0)
+part_multiple a place x at k e = elim (true_or_false (goes_first (2 ^ a) place x at)) [
+  | inl first ↦
+      let le : 2 ^ a ≤ x = before_le x at (2 ^ a) place (first_to (2 ^ a) place x at first) in
+      let most : a ≤ k = le_exponents a k (subst (λ n. 2 ^ a ≤ n) e le) in
+      let m : Multiple (2 ^ a) x = subst (λ n. Multiple (2 ^ a) n) (sym e) (power_multiple a k most) in
+      rw first m
+  | inr not ↦ rw not (no_multiple (2 ^ a))
+]
+
+sum_multiple : (a place at : ℕ) (xs : List ℕ) → ArePowers xs → Multiple (2 ^ a) (sum_before (2 ^ a) place at xs)
+sum_multiple a place at [] h = no_multiple (2 ^ a)
+sum_multiple a place at (x ∷ xs) h =
+    add_multiples (2 ^ a) (cond (goes_first (2 ^ a) place x at) x 0) (sum_before (2 ^ a) place (at + 1) xs)
+    (part_multiple a place x at h.0.0 h.0.1) (sum_multiple a place (at + 1) xs h.1)
+
+no_rest : (own n : ℕ) → Multiple own n → n % own ≡ 0
+no_rest own n (k, e) = ap (λ x. x % own) e ∙ mul-mod_left k own
+
+aligned_power : (a place : ℕ) (all : List ℕ) → ArePowers all → IsAligned (range_at (2 ^ a) place all)
+aligned_power a place all g =
+    let size : sum_before (2 ^ a) place 0 all + 2 ^ a - sum_before (2 ^ a) place 0 all ≡ 2 ^ a = omega arith in
+    rw size (no_rest (2 ^ a) (sum_before (2 ^ a) place 0 all) (sum_multiple a place 0 all g))
+
+pub ranges_aligned : (place : ℕ) (rs all : List ℕ) → ArePowers rs → ArePowers all → All IsAligned (ranges_from place all rs)
+ranges_aligned place [] all h g = λ k d l. absurd (omega arith)
+ranges_aligned place (r ∷ rs) all h g =
+    All-cons IsAligned (range_at r place all) (ranges_from (place + 1) all rs)
+    (subst (λ x. IsAligned (range_at x place all)) (sym h.0.1) (aligned_power h.0.0 place all g))
+    (ranges_aligned (place + 1) rs all h.1 g)

@@ -76,12 +76,11 @@ pub ones_apart : (n k : ℕ) → n % 2 ^ k ≡ 0 → bit_and n (2 ^ k - 1) ≡ 0
 ones_apart n k divides = and_mask n k ∙ divides
 
 -- a block is a set
-pub block_invariant : (start size block : ℕ) → IsBlock start size block → start + size ≤ 2 ^ 48
+pub block_invariant : (start block : ℕ) → IsPowerOfTwo block → start % block ≡ 0 → start + block ≤ 2 ^ 48
     → (bit_and start (block - 1) ≡ 0) × (start < 2 ^ 48) × (block - 1 < 2 ^ 48)
-block_invariant start size block h fits =
-    let one = power_pos block h.power in
-    let within = h.fits in
-    (subst (λ p. start % p ≡ 0 → bit_and start (p - 1) ≡ 0) (sym h.power.1) (ones_apart start h.power.0) h.divides, omega arith, omega arith)
+block_invariant start block power divides fits =
+    let one = power_pos block power in
+    (subst (λ p. start % p ≡ 0 → bit_and start (p - 1) ≡ 0) (sym power.1) (ones_apart start power.0) divides, omega arith, omega arith)
 
 -- ---- the numbers of a block
 

@@ -92,7 +92,7 @@ within_from_test s t r range e = rw e (within_is s t range)
 a_pair : (s : SizeRange) → IsTrue (is_size_range s) → s.max ≢ 0 → IsSizePair s.min s.max
 a_pair s range some = elim (range_cases s range) [ inl none ↦ absurd (some none.1) | inr pair ↦ pair ]
 
-least_power : (a b : ℕ) → IsPowerOfTwo a → IsPowerOfTwo b → IsPowerOfTwo (min a b)
+pub least_power : (a b : ℕ) → IsPowerOfTwo a → IsPowerOfTwo b → IsPowerOfTwo (min a b)
 least_power a b p q = elim (cases_lt a b) [
   | inl lt ↦ let e : min a b ≡ a = omega arith in rw e p
   | inr ge ↦ let e : min a b ≡ b = omega arith in rw e q

@@ -1,5 +1,5 @@
 -- Ranges of ids for counts.
-use Rattle.std.specs.Prelude.{ℕ, zero, suc, ◌+◌, ◌-◌, ◌*◌, ◌≤◌, List, [], ◌∷◌, map, Bool, ◌&&◌, ◌||◌, ◌==◌, nat_lt, nat_le, cond}
+use Rattle.std.specs.Prelude.{ℕ, zero, suc, ◌≡◌, ◌+◌, ◌-◌, ◌*◌, ◌%◌, ◌≤◌, List, [], ◌∷◌, map, Bool, ◌&&◌, ◌||◌, ◌==◌, nat_lt, nat_le, cond}
 use Rattle.std.specs.Int.{IsNextPowerOfTwo}
 use Rattle.dip_sets.specs.declared.ids.IdRange.{IdRange}
 
@@ -19,12 +19,14 @@ goes_first own place other at = nat_lt own other || (own == other && nat_lt at p
 -- the sum of those that go first, in a list that begins at a place
 abbrev pub sum_before : ℕ → ℕ → ℕ → List ℕ → ℕ
 sum_before own place at [] = 0
-sum_before own place at (other ∷ others) = cond (goes_first own place other at) other 0 + sum_before own place (at + 1) others
+sum_before own place at (other ∷ others) =
+    cond (goes_first own place other at) other 0 + sum_before own place (at + 1) others
 
 -- a range begins after all that go before it
 abbrev pub range_at : ℕ → ℕ → List ℕ → IdRange
 range_at own place all = record { start = sum_before own place 0 all; end = sum_before own place 0 all + own }
 
+-- the ranges of the rounded counts that stand from a place on, among all of them
 abbrev pub ranges_from : ℕ → List ℕ → List ℕ → List IdRange
 ranges_from place all [] = []
 ranges_from place all (own ∷ rest) = range_at own place all ∷ ranges_from (place + 1) all rest
@@ -40,3 +42,7 @@ IsRounded count range = IsNextPowerOfTwo count (range.end - range.start)
 -- a range has an id for each of a count
 abbrev pub HasRoom : ℕ → IdRange → Type 0
 HasRoom count range = count ≤ range.end - range.start
+
+-- a range begins at a multiple of its length
+abbrev pub IsAligned : IdRange → Type 0
+IsAligned range = range.start % (range.end - range.start) ≡ 0

@@ -19,7 +19,8 @@ piece s t place = record {
   mask = bit_and s.mask (2 ^ 64 - 1 - cut_from s t place);
 }
 
--- the same by its numbers: those of the one set that differ from the other at the place and agree with it at the higher bits
+-- the same by its numbers: those of the one set that differ from the other at the place, and agree with it at the
+-- higher bits
 pub record InPiece (s t : Pattern) (place x : ℕ) : Type 0 where
   pub in_set : In s x
   pub differs : bit_at x place ≡ 1 - bit_at t.base place

@@ -10,6 +10,7 @@ is_letter c = nat_le 97 c && nat_le c 122
 abbrev pub is_name_byte : ℕ → Bool
 is_name_byte c = is_letter c || (nat_le 48 c && nat_le c 57) || (c == 95)
 
+-- the first byte is a letter
 abbrev pub begins_with_letter : List ℕ → Bool
 begins_with_letter [] = false
 begins_with_letter (c ∷ cs) = is_letter c

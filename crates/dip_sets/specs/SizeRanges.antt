@@ -21,7 +21,8 @@ is_size_range s = (s.min == 0 && s.max == 0) || is_size_pair s.min s.max
 
 -- the least and the greatest size of a range that has any
 abbrev pub IsSizePair : ℕ → ℕ → Type 0
-IsSizePair least greatest = IsPowerOfTwo least × IsPowerOfTwo greatest × (1 ≤ least) × (least ≤ greatest) × (greatest ≤ 256)
+IsSizePair least greatest =
+    IsPowerOfTwo least × IsPowerOfTwo greatest × (1 ≤ least) × (least ≤ greatest) × (greatest ≤ 256)
 
 -- a number is a size of the range where it is a power of two from the least to the greatest
 abbrev pub HasSize : SizeRange → ℕ → Type 0
@@ -39,6 +40,7 @@ IsWithin s t = (bytes : ℕ) → HasSize s bytes → HasSize t bytes
 abbrev pub is_within : SizeRange → SizeRange → Bool
 is_within s t = s.max == 0 || (nat_le t.min s.min && nat_le s.max t.max)
 
+-- no size
 abbrev pub no_sizes : SizeRange
 no_sizes = record { min = 0; max = 0 }
 
@@ -48,13 +50,15 @@ IsMeet s t common = (bytes : ℕ) → HasSize common bytes ↔ (HasSize s bytes 
 
 -- the same as a range
 abbrev pub meet : SizeRange → SizeRange → SizeRange
-meet s t = cond (nat_le (max s.min t.min) (min s.max t.max)) (record { min = max s.min t.min; max = min s.max t.max }) no_sizes
+meet s t =
+    cond (nat_le (max s.min t.min) (min s.max t.max)) (record { min = max s.min t.min; max = min s.max t.max }) no_sizes
 
 -- a range is the least one that has the sizes of two ranges
 pub record IsCover (s t both : SizeRange) : Type 0 where
   pub first : IsWithin s both
   pub second : IsWithin t both
-  pub least : (other : SizeRange) → IsTrue (is_size_range other) → IsWithin s other → IsWithin t other → IsWithin both other
+  pub least : (other : SizeRange) → IsTrue (is_size_range other) → IsWithin s other → IsWithin t other
+      → IsWithin both other
 
 -- the same as a range
 abbrev pub cover : SizeRange → SizeRange → SizeRange

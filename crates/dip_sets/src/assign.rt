@@ -2,14 +2,14 @@ ghost use Rattle.std.specs.Prelude.{◌≡◌, ◌≤◌, ◌*◌, length, map, 
 ghost use Rattle.std.specs.List.{AllZip};
 ghost use Rattle.dip_sets.specs.Ids.{DisjointIds};
 ghost use Rattle.dip_sets.specs.Assignments.{rounded, goes_first, sum_before, ranges_from, assigned};
-ghost use Rattle.dip_sets.specs.Assignments.{IsRounded, HasRoom};
+ghost use Rattle.dip_sets.specs.Assignments.{IsAligned, IsRounded, HasRoom};
 
 use crate::ids::{IdRange, IdRanges};
 use dip_lists::{Items, Memory};
 use std::alloc::Global;
 
-// The least power of two that isn't below the count.
-fn rounded_up(count: u32) -> u32
+/// The least power of two that isn't below the count: 1 for 0 and for 1.
+pub fn rounded_up(count: u32) -> u32
     requires { count ≤ 1024 }
     ensures value { result ≡ rounded count }
     ensures small { result ≤ 1024 }
@@ -17,6 +17,7 @@ fn rounded_up(count: u32) -> u32
     count.next_power_of_two()
 }
 
+// Each count rounded up.
 fn rounded_counts(alloc: Global, counts: &[u32]) -> Result<Items<u32>, Memory>
     requires { All (λ count. count ≤ 1024) counts.now }
     ensures value { IfOk result (λ list. list ≡ map rounded counts.now) }
@@ -29,7 +30,10 @@ fn rounded_counts(alloc: Global, counts: &[u32]) -> Result<Items<u32>, Memory>
     Ok(list)
 }
 
-fn goes_first(own: u32, place: usize, other: u32, at: usize) -> bool
+/// Whether the range of a rounded count goes before that of another one: it is the larger of the two, or
+/// they are equal and it stands earlier. `own` and `place` are of the range that is placed, `other` and `at`
+/// of the one that may go before it.
+pub fn goes_first(own: u32, place: usize, other: u32, at: usize) -> bool
     ensures { result ≡ goes_first own place other at }
 {
     own < other || (own == other && at < place)
@@ -51,6 +55,7 @@ fn sum_before(rounded: &[u32], own: u32, place: usize) -> u32
     total
 }
 
+// A range for each rounded count: it begins after all that go before it.
 fn ranges_of(alloc: Global, rounded: &[u32]) -> Result<IdRanges, Memory>
     requires few { length rounded.now ≤ 1024 }
     requires small { All (λ count. count ≤ 1024) rounded.now }
@@ -74,6 +79,7 @@ pub fn assign_ranges(alloc: Global, counts: &[u32]) -> Result<IdRanges, Memory>
     ensures rounded { IfOk result (AllZip IsRounded counts.now) }
     ensures room { IfOk result (AllZip HasRoom counts.now) }
     ensures disjoint { IfOk result (AllPairs DisjointIds) }
+    ensures aligned { IfOk result (All IsAligned) }
 {
     let rounded = rounded_counts(alloc, counts)?;
     ranges_of(alloc, rounded.as_slice())

@@ -7,10 +7,8 @@ mod name;
 mod region;
 mod set;
 mod sizes;
-#[cfg(test)]
-mod tests;
 
-pub use assign::assign_ranges;
+pub use assign::{assign_ranges, goes_first, rounded_up};
 pub use ids::{IdRange, IdRanges};
 pub use name::{Name, is_name};
 pub use region::split_region;

@@ -25,12 +25,14 @@ impl Model for Name {
     ghost invariant = { λ n. IsTrue (is_name (string_bytes n.text)) };
 }
 
+// Whether a byte may stand in a name.
 fn is_name_byte(byte: u8) -> bool
     ensures { result ≡ names.is_name_byte byte }
 {
     byte.is_ascii_lowercase() || byte.is_ascii_digit() || byte == b'_'
 }
 
+// Whether the first byte is a letter.
 fn begins_with_letter(text: &[u8]) -> bool
     ensures { result ≡ names.begins_with_letter text.now }
 {
@@ -40,6 +42,7 @@ fn begins_with_letter(text: &[u8]) -> bool
     }
 }
 
+// Whether each byte may stand in a name.
 fn has_name_bytes(text: &[u8]) -> bool
     ensures { result ≡ list_all names.is_name_byte text.now }
 {
@@ -81,7 +84,7 @@ impl Name {
         self.text.as_bytes() == other.text.as_bytes()
     }
 
-    /// The bytes of the name.
+    /// The bytes of the name. Callers learn here that they have its form.
     pub fn bytes(&self) -> &[u8]
         ensures bytes { result.now ≡ self.now }
         ensures form { IsTrue (names.is_name self.now) }
@@ -89,7 +92,7 @@ impl Name {
         self.text.as_bytes()
     }
 
-    /// The text of the name.
+    /// The text of the name. Callers learn here that it has its form.
     pub fn as_str(&self) -> &str
         ensures text { result.now ≡ self.now }
         ensures form { IsTrue (names.is_name self.now) }
@@ -100,7 +103,7 @@ impl Name {
 
 impl Same for Name {
     fn same(&self, other: &Name) -> bool {
-        self.text.as_bytes() == other.text.as_bytes()
+        Name::same(self, other)
     }
 }
 

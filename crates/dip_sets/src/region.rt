@@ -28,7 +28,7 @@ pub fn split_region(alloc: Global, start: u64, size: u64) -> Result<AddressSets,
     let mut left = size;
     while left > 0 {
         let block = largest_block(base, left);
-        sets.push(AddressSet::block(base, left, block))?;
+        sets.push(AddressSet::block(base, block))?;
         base += block;
         left -= block;
     }

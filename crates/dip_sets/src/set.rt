@@ -1,6 +1,7 @@
-ghost use Rattle.std.specs.Prelude.{ℕ, ◌≡◌, ◌≢◌, ◌+◌, ◌<◌, ◌≤◌, ◌^◌, ◌⊎◌, ◌↔◌, bit_and};
+ghost use Rattle.std.specs.Prelude.{ℕ, ◌≡◌, ◌≢◌, ◌+◌, ◌%◌, ◌<◌, ◌≤◌, ◌^◌, ◌⊎◌, ◌↔◌, bit_and};
 ghost use Rattle.std.specs.Prelude.{IsTrue, IfOk, OnErr, IsNone, IfSome, AllPairs};
-ghost use Rattle.dip_sets.specs.Regions.{IsBlock, block_set};
+ghost use Rattle.std.specs.Int.{IsPowerOfTwo};
+ghost use Rattle.dip_sets.specs.Regions.{block_set};
 ghost use Rattle.dip_sets.specs.Differences.{cut_bits, piece, pieces, ArePieces, difference, InDifference};
 ghost use Rattle.dip_sets.specs.Sets.{In, InSome, Overlap, Disjoint, Covers, IsCommon, IsLowestClear, IsSet};
 ghost use Rattle.dip_sets.specs.Sets.{is_in, overlap, common, alignment};
@@ -51,7 +52,7 @@ impl AddressSet {
         Ok(AddressSet { base, mask })
     }
 
-    /// The bits that each address of the set has outside the mask.
+    /// The bits that each address of the set has outside the mask. Callers learn here what every set keeps.
     pub fn base(&self) -> u64
         ensures value { result ≡ self.now.base }
         ensures set { IsSet self.now }
@@ -59,7 +60,7 @@ impl AddressSet {
         self.base
     }
 
-    /// The bits in which the addresses of the set differ.
+    /// The bits in which the addresses of the set differ. Callers learn here what every set keeps.
     pub fn mask(&self) -> u64
         ensures value { result ≡ self.now.mask }
         ensures set { IsSet self.now }
@@ -135,10 +136,11 @@ impl AddressSet {
 }
 
 impl AddressSet {
-    // The addresses of a block that fits in a region.
-    pub(crate) fn block(start: u64, size: u64, block: u64) -> AddressSet
-        requires block { IsBlock start size block }
-        requires fits { start + size ≤ 2 ^ 48 }
+    // The addresses of a block that begins at a multiple of its size.
+    pub(crate) fn block(start: u64, block: u64) -> AddressSet
+        requires power { IsPowerOfTwo block }
+        requires divides { start % block ≡ 0 }
+        requires fits { start + block ≤ 2 ^ 48 }
         ensures { result ≡ block_set start block }
     {
         AddressSet {
@@ -147,7 +149,7 @@ impl AddressSet {
         }
     }
 
-    // The bits that are in this mask alone.
+    // The bits that are in this mask alone. Callers learn here what both sets keep.
     fn cut_bits(&self, other: &AddressSet) -> u64
         ensures bits { result ≡ cut_bits self.now other.now }
         ensures this { IsSet self.now }
@@ -190,6 +192,8 @@ impl AddressSet {
 }
 
 impl Default for AddressSet {
+    ghost is_default = { λ s. s ≡ record { base = 0; mask = 0 } };
+
     /// The set of address 0 alone.
     fn default() -> AddressSet {
         AddressSet { base: 0, mask: 0 }

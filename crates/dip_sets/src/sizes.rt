@@ -47,7 +47,7 @@ impl Sizes {
         Sizes { min: 0, max: 0 }
     }
 
-    /// The least size in bytes, 0 where there is none.
+    /// The least size in bytes, 0 where there is none. Callers learn here what every range keeps.
     pub fn min(&self) -> u32
         ensures value { result ≡ self.now.min }
         ensures range { IsTrue (is_size_range self.now) }
@@ -55,7 +55,7 @@ impl Sizes {
         self.min
     }
 
-    /// The greatest size in bytes, 0 where there is none.
+    /// The greatest size in bytes, 0 where there is none. Callers learn here what every range keeps.
     pub fn max(&self) -> u32
         ensures value { result ≡ self.now.max }
         ensures range { IsTrue (is_size_range self.now) }

@@ -6,10 +6,7 @@ mod table;
 mod value;
 
 pub use table::{
-    integer_under, is_among, keys_among, may_have_integer, may_have_name, may_have_text,
-    name_under, number_under, pair_under, table_under, tables_under, text_under, under,
+    integer_under, keys_among, keys_law, may_have_integer, may_have_name, may_have_text,
+    name_under, number_under, table_under, tables_under, text_under, under,
 };
-pub use value::{items, number_within, pair};
-
-#[cfg(test)]
-mod tests;
+pub use value::{number_within, pair};

@@ -1,15 +1,18 @@
 ghost use Rattle.std.specs.Prelude.{◌≡◌, ◌≤◌, map, is_some, IsTrue, IfSome};
 ghost use Rattle.std.specs.Option.{option_map};
+ghost use Rattle.std.specs.List.{list_any};
+ghost use Rattle.std.specs.Str.{bytes_eq};
 ghost use Rattle.toml.specs.Data.{get_member};
 ghost use Rattle.toml.specs.View.{table_view, view, items_view};
 ghost use Rattle.dip_sets.specs.Names as names;
+ghost use Rattle.toml_shape.specs.KeysLaw.{KeysLaw};
 ghost use Rattle.toml_shape.specs.Shapes as spec;
 
-use crate::{number_within, pair};
+use crate::number_within;
 use dip_sets::is_name;
 use toml::{Table, Value};
 
-/// The most bytes of a name in a file.
+// The most bytes of a name in a file.
 const MOST_NAME: usize = 32;
 
 /// The value under a key.
@@ -19,9 +22,9 @@ pub fn under<'a>(table: &'a Table, key: &str) -> Option<&'a Value>
     table.get(key)
 }
 
-/// Whether a text is one of these.
-pub fn is_among(keys: &[&str], key: &str) -> bool
-    ensures { result ≡ spec.is_among (map (λ k. k.now) keys.now) key.now }
+// Whether a text is one of these.
+fn is_among(keys: &[&str], key: &str) -> bool
+    ensures { result ≡ list_any (bytes_eq key.now) (map (λ k. k.now) keys.now) }
 {
     for one in keys {
         if key == *one {
@@ -43,6 +46,11 @@ pub fn keys_among(keys: &[&str], table: &Table) -> bool
     true
 }
 
+/// What it means that each key of a table is among some: whatever stands in the table stands under one of them.
+pub fn keys_law()
+    ensures { KeysLaw }
+{}
+
 /// The text under a key, if there is one.
 pub fn text_under<'a>(table: &'a Table, key: &str) -> Option<&'a str>
     ensures { option_map (λ text. text.now) result ≡ spec.text_under key.now (table_view table.now) }
@@ -53,13 +61,20 @@ pub fn text_under<'a>(table: &'a Table, key: &str) -> Option<&'a str>
     }
 }
 
+// Whether a text is a name of at most 32 bytes.
+fn is_short_name(text: &str) -> bool
+    ensures { result ≡ is_some (spec.short_name text.now) }
+{
+    is_name(text) && text.len() <= MOST_NAME
+}
+
 /// The text under a key, if it is a name of at most 32 bytes.
 pub fn name_under<'a>(table: &'a Table, key: &str) -> Option<&'a str>
     ensures value { option_map (λ name. name.now) result ≡ spec.name_under key.now (table_view table.now) }
     ensures form { IfSome result (λ name. IsTrue (names.is_name name.now)) }
 {
     let text = text_under(table, key)?;
-    if is_name(text) && text.len() <= MOST_NAME {
+    if is_short_name(text) {
         Some(text)
     } else {
         None
@@ -94,19 +109,14 @@ pub fn table_under<'a>(table: &'a Table, key: &str) -> Option<&'a Table>
     }
 }
 
-/// The two integers under a key, if there is an array of exactly two.
-pub fn pair_under(table: &Table, key: &str) -> Option<(i64, i64)>
-    ensures { result ≡ spec.pair_under key.now (table_view table.now) }
-{
-    pair(under(table, key)?)
-}
-
+// Whether a value is a table.
 fn is_table(value: &Value) -> bool
     ensures { result ≡ spec.is_table (view value.now) }
 {
     matches!(value, Value::Table(_))
 }
 
+// Whether each item is a table.
 fn are_tables(items: &[Value]) -> bool
     ensures { result ≡ spec.are_tables (items_view items.now) }
 {
@@ -136,16 +146,9 @@ pub fn may_have_integer(table: &Table, key: &str) -> bool
     ensures { result ≡ spec.may_have spec.is_integer (get_member key.now (table_view table.now)) }
 {
     match under(table, key) {
-        None => true,
-        Some(Value::Integer(_)) => true,
+        None | Some(Value::Integer(_)) => true,
         Some(_) => false,
     }
-}
-
-fn is_short_name(text: &str) -> bool
-    ensures { result ≡ is_some (spec.short_name text.now) }
-{
-    is_name(text) && text.len() <= MOST_NAME
 }
 
 /// Whether a key is missing or has a name of at most 32 bytes.

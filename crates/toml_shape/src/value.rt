@@ -1,5 +1,4 @@
 ghost use Rattle.std.specs.Prelude.{◌≡◌, ◌≤◌, IfSome};
-ghost use Rattle.std.specs.Option.{option_map};
 ghost use Rattle.toml.specs.View.{view, items_view};
 ghost use Rattle.toml_shape.specs.Shapes as spec;
 
@@ -20,6 +19,7 @@ pub fn number_within(integer: i64, least: u64, most: u64) -> Option<u64>
     }
 }
 
+// The integer that a value is, if it is one.
 fn integer(value: &Value) -> Option<i64>
     ensures { result ≡ spec.integer_of (view value.now) }
 {
@@ -29,6 +29,7 @@ fn integer(value: &Value) -> Option<i64>
     }
 }
 
+// The two integers of exactly two items.
 fn pair_of_items(items: &[Value]) -> Option<(i64, i64)>
     ensures { result ≡ spec.pair_of_items (items_view items.now) }
 {
@@ -44,16 +45,6 @@ pub fn pair(value: &Value) -> Option<(i64, i64)>
 {
     match value {
         Value::Array(items) => pair_of_items(items.as_slice()),
-        _ => None,
-    }
-}
-
-/// The items of an array.
-pub fn items(value: &Value) -> Option<&[Value]>
-    ensures { option_map (λ items. items_view items.now) result ≡ spec.items_of (view value.now) }
-{
-    match value {
-        Value::Array(items) => Some(items.as_slice()),
         _ => None,
     }
 }
