@@ -13,7 +13,7 @@ use Rattle.tl_params.specs.declared.ports.Slave.{Slave}
 use Rattle.tl_params.specs.declared.ports.UpPort.{UpPort}
 use Rattle.tl_params.specs.Owners.{sets_of}
 use Rattle.dip_checks.specs.Checks.{has_overlap, edge_overlaps, overlapping_edges}
-use Rattle.dip_checks.specs.Apart.{HasDisjointSets}
+use Rattle.tl_params.specs.Apart.{HasDisjointSets}
 
 neither : (a b : Bool) → (a || b) ≡ false → (a ≡ false) × (b ≡ false)
 neither true b h = (cc)

@@ -25,7 +25,7 @@ use Rattle.dip_negotiate.specs.declared.solution.Solution.{Solution}
 use Rattle.dip_negotiate.specs.Negotiation.{downs, ups}
 use Rattle.dip_negotiate.specs.Places.{is_nexus_node}
 use Rattle.dip_stars.specs.Edges.{design_counts, waiting, unfilled, excess, edges_of}
-use Rattle.tl_rules.specs.Fits.{fits, up_at}
+use Rattle.tl_rules.specs.Fits.{fits, port_up}
 use Rattle.dip_checks.specs.declared.accepted.Accepted.{Accepted}
 use Rattle.dip_checks.specs.Weights.{weight, edges_to, edges_from}
 
@@ -134,7 +134,7 @@ abbrev pub edges_at : ℕ → List Edge → List ℕ
 edges_at node edges = places (λ number edge. (edge.to == node) || (edge.from == node)) 0 edges
 
 abbrev pub beat_at : List UpPort → ℕ → ℕ
-beat_at ups edge = (up_at ups edge).beat
+beat_at ups edge = (port_up ups edge).beat
 
 abbrev pub beats_differ : List UpPort → List ℕ → Bool
 beats_differ ups [] = false

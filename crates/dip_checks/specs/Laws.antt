@@ -5,7 +5,7 @@ use Rattle.dip_lists.specs.FirstLaw.{Fails, AreInOrder, IsFirstFailure}
 use Rattle.tl_params.specs.declared.ports.UpPort.{UpPort}
 use Rattle.dip_graph.specs.declared.design.Design.{Design}
 use Rattle.dip_rule.specs.Stated.{StatedRule}
-use Rattle.dip_checks.specs.Apart.{HasDisjointSets, HasOneOwnerEach}
+use Rattle.tl_params.specs.Apart.{HasDisjointSets, HasOneOwnerEach}
 use Rattle.dip_checks.specs.Checks.{design_checks}
 
 -- The checks 5 to 18 of every design, by every list of rules, stand in the order of their numbers, each with rising subjects. So the failure that is

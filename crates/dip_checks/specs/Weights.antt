@@ -12,7 +12,7 @@ use Rattle.dip_graph.specs.declared.design.NodeKind.TheVariants.{Source, Sink, R
 use Rattle.dip_graph.specs.declared.design.NodeEntry.{NodeEntry}
 use Rattle.dip_graph.specs.declared.edges.Edge.{Edge}
 use Rattle.dip_rule.specs.Stated.{StatedRule, template_of}
-use Rattle.tl_rules.specs.Fits.{down_at, up_at}
+use Rattle.tl_rules.specs.Fits.{port_down, port_up}
 
 -- the numbers of the edges to a node and from it
 abbrev pub edges_to : ℕ → List Edge → List ℕ
@@ -24,12 +24,12 @@ edges_from node edges = places (λ number edge. edge.from == node) 0 edges
 -- a width adapter keeps an entry for each id that enters it
 abbrev pub width_weight : List DownPort → List ℕ → ℕ
 width_weight downs [] = 0
-width_weight downs (edge ∷ edges) = 4 + largest_end (down_at downs edge).masters + width_weight downs edges
+width_weight downs (edge ∷ edges) = 4 + largest_end (port_down downs edge).masters + width_weight downs edges
 
 -- a fragmenter keeps the beats of a whole transfer
 abbrev pub fragmenter_weight : List UpPort → List ℕ → ℕ
 fragmenter_weight ups [] = 0
-fragmenter_weight ups (edge ∷ edges) = 4 + 256 / (up_at ups edge).beat + fragmenter_weight ups edges
+fragmenter_weight ups (edge ∷ edges) = 4 + 256 / (port_up ups edge).beat + fragmenter_weight ups edges
 
 abbrev pub set_count : List Slave → ℕ
 set_count [] = 0
@@ -37,7 +37,7 @@ set_count (slave ∷ slaves) = length slave.addresses + set_count slaves
 
 abbrev pub all_sets : List UpPort → List ℕ → ℕ
 all_sets ups [] = 0
-all_sets ups (edge ∷ edges) = set_count (up_at ups edge).slaves + all_sets ups edges
+all_sets ups (edge ∷ edges) = set_count (port_up ups edge).slaves + all_sets ups edges
 
 -- what a template weighs between these edges; n is its first argument
 abbrev pub template_weight : Template → ℕ → List ℕ → List ℕ → List DownPort → List UpPort → ℕ

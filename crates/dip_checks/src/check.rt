@@ -2,7 +2,7 @@ ghost use Rattle.std.specs.Prelude.{◌≡◌, ◌<◌, ◌≤◌, ◌^◌, ◌+
 ghost use Rattle.dip_lists.specs.First.{first_failing};
 ghost use Rattle.dip_graph.specs.Faults.{IsFaultOf};
 ghost use Rattle.dip_negotiate.specs.Negotiation.{HasNodes, IsOnlySolution, downs, ups};
-ghost use Rattle.dip_checks.specs.Apart.{HasDisjointSets, HasOneOwnerEach};
+ghost use Rattle.tl_params.specs.Apart.{HasDisjointSets, HasOneOwnerEach};
 ghost use Rattle.dip_checks.specs.Checks as spec;
 
 use crate::Accepted;

@@ -4,7 +4,7 @@ ghost use Rattle.std.specs.List.{list_any};
 ghost use Rattle.dip_lists.specs.First.{first, first_failing};
 ghost use Rattle.dip_sets.specs.Ids.{overlap_ids};
 ghost use Rattle.dip_graph.specs.Faults.{IsFaultAt, IsFaultOf};
-ghost use Rattle.dip_checks.specs.Apart.{HasDisjointSets};
+ghost use Rattle.tl_params.specs.Apart.{HasDisjointSets};
 ghost use Rattle.dip_checks.specs.Checks as spec;
 
 use crate::sets::{edge_is_misaligned, sets_of, some_overlap};

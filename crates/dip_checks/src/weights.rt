@@ -1,5 +1,5 @@
 ghost use Rattle.std.specs.Prelude.{◌≡◌, ◌<◌, ◌^◌, ◌+◌, ◌*◌, ◌/◌, length, IfOk};
-ghost use Rattle.tl_rules.specs.Fits.{down_at, up_at};
+ghost use Rattle.tl_rules.specs.Fits.{port_down, port_up};
 ghost use Rattle.tl_params.specs.Owners as owners;
 ghost use Rattle.dip_checks.specs.Weights as spec;
 
@@ -30,7 +30,7 @@ fn times(a: u64, b: u64) -> Result<u64, Memory>
 }
 
 fn end_at(downs: &[DownPort], edge: u32) -> u32
-    ensures { result ≡ owners.largest_end (down_at downs.now edge).masters }
+    ensures { result ≡ owners.largest_end (port_down downs.now edge).masters }
 {
     match downs.get(edge as usize) {
         Some(down) => largest_end(down),
@@ -50,7 +50,7 @@ fn width_weight(downs: &[DownPort], edges: &[u32]) -> Result<u64, Memory>
 
 // 256 divided by the width of the bus, 0 where that is 0.
 fn beats_at(ups: &[UpPort], edge: u32) -> u32
-    ensures { result ≡ 256 / (up_at ups.now edge).beat }
+    ensures { result ≡ 256 / (port_up ups.now edge).beat }
 {
     match ups.get(edge as usize) {
         Some(up) => 256u32.checked_div(up.beat).unwrap_or(0),
@@ -79,7 +79,7 @@ fn set_count(slaves: &[Slave]) -> Result<u64, Memory>
 }
 
 fn sets_at(ups: &[UpPort], edge: u32) -> Result<u64, Memory>
-    ensures { IfOk result (λ count. count ≡ spec.set_count (up_at ups.now edge).slaves) }
+    ensures { IfOk result (λ count. count ≡ spec.set_count (port_up ups.now edge).slaves) }
 {
     match ups.get(edge as usize) {
         Some(up) => set_count(up.slaves.as_slice()),

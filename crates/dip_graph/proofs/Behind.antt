@@ -4,7 +4,7 @@ use Rattle.std.proofs.lemmas.List.{append-nil, append_assoc}
 use Rattle.dip_graph.specs.declared.design.BindEntry.{BindEntry}
 use Rattle.dip_graph.specs.Orders.{is_ready, first_from, least_ready, listed_with, order_from, StandBehind, EachStandsBehind}
 
-same_some : (x y : ℕ) → Some x ≡ Some y → x ≡ y
+pub same_some : (x y : ℕ) → Some x ≡ Some y → x ≡ y
 same_some x y e = cc
 
 found : (passes : ℕ → Bool) (n count m : ℕ) → first_from passes n count ≡ Some m → passes m ≡ true

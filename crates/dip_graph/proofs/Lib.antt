@@ -1,3 +1,5 @@
 pub mod Finding
 pub mod Turns
 pub mod Behind
+pub mod Bound
+pub mod Complete

@@ -7,15 +7,13 @@ mod fault;
 mod kinds;
 mod laws;
 mod ordering;
-#[cfg(test)]
-mod tests;
 
 pub use design::{
     BindEntry, Binds, Design, ModuleEntry, ModuleTree, NodeEntry, NodeKind, Nodes, Star,
 };
-pub use edges::{Edge, Edges};
+pub use edges::{Edge, Edges, edges_at, edges_from, edges_to};
 pub use fault::Fault;
-pub use kinds::kind_at;
+pub use kinds::{kind_at, ruled_kind_at};
 pub use laws::order_law;
 pub use ordering::{OrderFault, canonical_order, order};
 pub use tl_params::Numbers;

@@ -12,7 +12,7 @@ use tl_params::Numbers;
 #[derive(Clone, Copy, Debug, PartialEq, Eq, Error)]
 pub enum OrderFault {
     /// The least node that stands behind a cycle of binds or on one.
-    #[error("node {node} waits for itself")]
+    #[error("node {node} stands on a cycle of binds or behind one")]
     Cycle { node: u32 },
     #[error("out of memory")]
     Memory,
@@ -29,8 +29,7 @@ impl From<Memory> for OrderFault {
     }
 }
 
-/// Whether a number is in a list.
-pub fn is_listed(numbers: &[u32], number: u32) -> bool
+fn is_listed(numbers: &[u32], number: u32) -> bool
     ensures { result ≡ spec.is_listed numbers.now number }
 {
     numbers.iter().any(|other| *other == number)
@@ -42,6 +41,7 @@ fn is_met(listed: &[u32], node: u32, bind: &BindEntry) -> bool
     bind.to != node || is_listed(listed, bind.from)
 }
 
+// Whether a node isn't listed yet, and the from-nodes of all binds to it are.
 fn is_ready(binds: &[BindEntry], listed: &[u32], node: u32) -> bool
     ensures { result ≡ spec.is_ready binds.now listed.now node }
 {
@@ -56,6 +56,7 @@ fn is_ready(binds: &[BindEntry], listed: &[u32], node: u32) -> bool
     true
 }
 
+// The least of so many nodes that is ready.
 #[tactic(auto, using(crate::proofs::Turns::first_more, crate::proofs::Turns::first_here))]
 fn least_ready(binds: &[BindEntry], listed: &[u32], nodes: u32) -> Option<u32>
     ensures { result ≡ spec.least_ready binds.now nodes listed.now }
@@ -68,6 +69,7 @@ fn least_ready(binds: &[BindEntry], listed: &[u32], nodes: u32) -> Option<u32>
     None
 }
 
+// The nodes that become ready, each next one the least, until none is.
 #[tactic(auto, using(crate::proofs::Turns::order_more, crate::proofs::Turns::order_ends))]
 fn order_of(alloc: Global, binds: &[BindEntry], nodes: u32) -> Result<Numbers, Memory>
     ensures { IfOk result (λ order. order ≡ spec.order_of binds.now nodes) }
@@ -82,9 +84,8 @@ fn order_of(alloc: Global, binds: &[BindEntry], nodes: u32) -> Result<Numbers, M
     Ok(listed)
 }
 
-/// The nodes in canonical order, without those that wait for themselves: each next one is the least node
-/// whose
-/// bound from-nodes stand before it.
+/// The nodes in canonical order, without those on a cycle of binds and behind one: each next one is the least
+/// node whose bound from-nodes stand before it.
 pub fn canonical_order(alloc: Global, design: &Design) -> Result<Numbers, Memory>
     requires { length design.now.nodes < 2 ^ 32 }
     ensures { IfOk result (λ order. order ≡ spec.canonical_order design.now) }
@@ -92,6 +93,7 @@ pub fn canonical_order(alloc: Global, design: &Design) -> Result<Numbers, Memory
     order_of(alloc, design.binds.as_slice(), design.nodes.len() as u32)
 }
 
+// The least node that isn't in an order.
 fn unlisted(order: &[u32], nodes: &[NodeEntry]) -> Option<u32>
     requires { length nodes.now < 2 ^ 32 }
     ensures { result ≡ first (spec.unlisted order.now nodes.now) }

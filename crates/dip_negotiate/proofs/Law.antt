@@ -1,23 +1,26 @@
 -- What the passes give is the only solution, and where one stops it is at the first refusal.
-use Rattle.std.proofs.Common.{◌≡◌, ℕ, zero, suc, ◌+◌, ◌<◌, Bool, true, false, not, cond, ◌&&◌, List, [], ◌∷◌, ◌++◌, length, replicate, Some, None, Ok, Err, refl, sym, ap, ◌∙◌, subst, arith, ◌⊎◌, inl, inr}
+use Rattle.std.proofs.Common.{◌≡◌, ℕ, zero, suc, ◌+◌, ◌<◌, Bool, true, false, not, cond, List, [], ◌∷◌, ◌++◌, length, replicate, Some, None, Ok, Err, refl, sym, ap, ◌∙◌, subst, arith, ◌⊎◌, inl, inr}
 use Rattle.std.specs.Prelude.{slice_get, ◌==◌}
 use Rattle.std.proofs.lemmas.Bool.{eqb-true}
 use Rattle.std.proofs.lemmas.Option.{slice_get_within, get_or_from_slice_get}
 use Rattle.std.proofs.lemmas.List.{length-replicate}
 use Rattle.dip_lists.specs.First.{first, places}
+use Rattle.dip_lists.proofs.Tests.{both}
+use Rattle.dip_graph.specs.Edges.{FollowsBind, HasNodes}
+use Rattle.dip_graph.specs.Kinds.{ruled_kind_at}
 use Rattle.dip_graph.specs.Orders.{is_listed, canonical_order, StandBehind}
 use Rattle.dip_graph.proofs.Behind.{each_stands_behind}
 use Rattle.dip_graph.specs.declared.design.NodeEntry.{NodeEntry}
 use Rattle.dip_graph.specs.declared.design.Design.{Design}
 use Rattle.dip_graph.specs.declared.edges.Edge.{Edge}
-use Rattle.dip_rule.specs.Stated.{StatedRule}
+use Rattle.dip_rule.specs.Stated.{StatedRule, is_nexus_kind}
 use Rattle.tl_params.specs.declared.ports.DownPort.{DownPort}
 use Rattle.tl_params.specs.declared.ports.UpPort.{UpPort}
 use Rattle.dip_negotiate.specs.declared.steps.End.{End}
 use Rattle.dip_negotiate.specs.declared.steps.Step.{Step}
 use Rattle.dip_negotiate.specs.Passes.{Pass, Refusal, run, Holds, HoldAt, OnlySolves, RefusesFirst}
-use Rattle.dip_negotiate.specs.Places.{source_end, sink_end, belongs, asked, is_nexus_node, steps_at, steps_down, steps_up}
-use Rattle.dip_negotiate.specs.Negotiation.{FollowsBind, HasNodes, IsNegotiable, NegotiationLaw, down_pass, up_pass, downs, ups, no_masters, no_slaves}
+use Rattle.dip_negotiate.specs.Places.{source_end, sink_end, belongs, asked, steps_at, steps_down, steps_up}
+use Rattle.dip_negotiate.specs.Negotiation.{IsNegotiable, NegotiationLaw, down_pass, up_pass, downs, ups, no_masters, no_slaves}
 use Rattle.dip_negotiate.proofs.Lookups.{In, same_ports}
 use Rattle.dip_negotiate.proofs.Runs.{InOrder, Within, run_done, only, refuses_first}
 use Rattle.dip_negotiate.proofs.Taken.{IsStep, at_is, known_step}
@@ -123,26 +126,21 @@ among test from (x ∷ xs) y h = at (test from x) refl h (among test (from + 1) 
     at true q (inr i) f = later (f i)
     at false q i f = later (f i)
 
-both : (a b : Bool) → (a && b) ≡ true → (a ≡ true) × (b ≡ true)
-both true true h = (refl, refl)
-both true false h = absurd cc
-both false b h = absurd cc
-
 -- an edge that is asked reaches the node of the one that asks
 reaches : (rules : List StatedRule) (nodes : List NodeEntry) (edges : List Edge) (near far : Edge → End) (edge : Edge) (y : ℕ) → In y (asked rules nodes edges near far edge)
     → (other : Edge) × (slice_get edges y ≡ Some other) × ((far other).node ≡ (near edge).node)
 reaches rules nodes edges near far edge y i =
-    let a = among (λ number other. belongs (is_nexus_node rules nodes (near edge).node) (near edge) (far other)) 0 edges y i in
+    let a = among (λ number other. belongs (is_nexus_kind rules (ruled_kind_at nodes (near edge).node)) (near edge) (far other)) 0 edges y i in
     let z : y ≡ a.0 = a.2 ∙ from_none a.0 in
     (a.1, ap (slice_get edges) z ∙ a.3, sym (eqb-true (near edge).node (far a.1).node (both ((near edge).node == (far a.1).node) _ a.4).0))
   where
     from_none : (j : ℕ) → 0 + j ≡ j
     from_none j = omega arith
 
--- a test that fails nowhere
-nowhere : {A : Type 0} (test : ℕ → A → Bool) (from : ℕ) (xs : List A) (j : ℕ) → j < length xs → first (places test from xs) ≡ None → (x : A) × (test (from + j) x ≡ false)
-nowhere test from [] j l h = absurd (omega arith)
-nowhere test from (x ∷ xs) j l h = at (test from x) refl j l h (λ k m q. nowhere test (from + 1) xs k m q)
+-- a test that fails passes_at
+passes_at : {A : Type 0} (test : ℕ → A → Bool) (from : ℕ) (xs : List A) (j : ℕ) → j < length xs → first (places test from xs) ≡ None → (x : A) × (test (from + j) x ≡ false)
+passes_at test from [] j l h = absurd (omega arith)
+passes_at test from (x ∷ xs) j l h = at (test from x) refl j l h (λ k m q. passes_at test (from + 1) xs k m q)
   where
     at : (b : Bool) → test from x ≡ b → (j : ℕ) → j < length (x ∷ xs) → first (cond b (from ∷ places test (from + 1) xs) (places test (from + 1) xs)) ≡ None
         → ((k : ℕ) → k < length xs → first (places test (from + 1) xs) ≡ None → (z : _) × (test (from + 1 + k) z ≡ false)) → (z : _) × (test (from + j) z ≡ false)
@@ -160,7 +158,7 @@ module _ (design : Design) (edges : List Edge) (n : IsNegotiable design edges) w
 
   all_listed : (m : ℕ) → m < length design.nodes → is_listed (canonical_order design) m ≡ true
   all_listed m l =
-      let f = nowhere (λ number node. not (is_listed (canonical_order design) number)) 0 design.nodes m l n.acyclic in
+      let f = passes_at (λ number node. not (is_listed (canonical_order design) number)) 0 design.nodes m l n.acyclic in
       let z : 0 + m ≡ m = omega arith in
       not_false (is_listed (canonical_order design) m) (ap (λ k. not (is_listed (canonical_order design) k)) (sym z) ∙ f.1)
 

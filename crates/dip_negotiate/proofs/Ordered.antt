@@ -1,5 +1,5 @@
 -- Both passes take the edges of a design without a cycle in order, and each of them once.
-use Rattle.std.proofs.Common.{◌≡◌, ℕ, zero, suc, ◌+◌, Bool, true, false, not, ◌&&◌, ◌||◌, List, [], ◌∷◌, ◌++◌, Some, refl, sym, ap, ◌∙◌, subst, arith, ◌⊎◌, inl, inr}
+use Rattle.std.proofs.Common.{◌≡◌, ℕ, zero, suc, ◌+◌, Bool, true, false, not, ◌||◌, List, [], ◌∷◌, ◌++◌, Some, refl, sym, ap, ◌∙◌, subst, arith, ◌⊎◌, inl, inr}
 use Rattle.std.specs.Prelude.{slice_get, ◌==◌}
 use Rattle.std.specs.List.{list_all}
 use Rattle.std.proofs.lemmas.Bool.{eqb-true, eq-eqb}
@@ -9,18 +9,14 @@ use Rattle.dip_graph.specs.Orders.{is_listed, is_met, is_ready, StandBehind}
 use Rattle.dip_graph.specs.declared.design.BindEntry.{BindEntry}
 use Rattle.dip_graph.specs.declared.edges.Edge.{Edge}
 use Rattle.dip_negotiate.specs.Places.{source_end, sink_end, steps_at, steps_down, steps_up}
-use Rattle.dip_negotiate.specs.Negotiation.{FollowsBind}
+use Rattle.dip_lists.proofs.Tests.{both}
+use Rattle.dip_graph.specs.Edges.{FollowsBind}
 use Rattle.dip_negotiate.proofs.Lookups.{In}
 use Rattle.dip_negotiate.proofs.Runs.{InOrder, known_after}
 use Rattle.dip_negotiate.proofs.Taken.{Knows, IsStep, at_node, knows_more, known_joined, order_joined, step_left, step_right, at_has, yes_or_no}
 
 never : {A : Type 0} → true ≡ false → A
 never z = absurd (cc)
-
-both : (a b : Bool) → (a && b) ≡ true → (a ≡ true) × (b ≡ true)
-both true true h = (refl, refl)
-both true false h = absurd cc
-both false b h = absurd cc
 
 either : (a b : Bool) → (a || b) ≡ true → (a ≡ true) ⊎ (b ≡ true)
 either true b h = inl refl

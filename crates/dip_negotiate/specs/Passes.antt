@@ -29,6 +29,7 @@ pub record Refusal : Type 0 where
   pub edge : Edge
   pub number : ℕ
 
+-- the refusal of an edge with a number
 abbrev pub refusal : Edge → ℕ → Refusal
 refusal edge number = record { edge = edge; number = number }
 
@@ -40,7 +41,8 @@ go_on edge (Err number) next = Err (refusal edge number)
 -- the ports after some steps, each of which puts its edge's port in place, or the first refusal
 abbrev pub run : {P : Type 0} → Pass P → List P → List Step → Result (List P) Refusal
 run pass ports [] = Ok ports
-run pass ports (step ∷ steps) = go_on step.edge (stated pass ports step.edge) (λ port. run pass (slice_set ports step.number port) steps)
+run pass ports (step ∷ steps) =
+    go_on step.edge (stated pass ports step.edge) (λ port. run pass (slice_set ports step.number port) steps)
 
 -- the fault names the refused edge, or is want of memory
 abbrev pub IsPassFault : {P : Type 0} → Result (List P) Refusal → PassFault → Type 0
@@ -68,7 +70,8 @@ pub record OnlySolves {P : Type 0} (pass : Pass P) (edges : List Edge) (ports : 
   pub solves : Solves pass edges ports
   pub only : (others : List P) → Solves pass edges others → others ≡ ports
 
--- The first of the steps that is refused: there are ports with which the equations of all steps before it hold, and from these the port of its edge is refused.
+-- The first of the steps that is refused: there are ports with which the equations of all steps before it hold, and
+-- from these the port of its edge is refused.
 pub record RefusesFirst {P : Type 0} (pass : Pass P) (steps : List Step) (first : Refusal) : Type 0 where
   pub front : List Step
   pub number : ℕ

@@ -1,37 +1,20 @@
 -- The ends of edges, which edges an edge's port is made of, and the order in which a pass takes edges.
-use Rattle.std.specs.Prelude.{ℕ, ◌+◌, Bool, false, ◌&&◌, ◌||◌, ◌==◌, cond, List, [], ◌∷◌, ◌++◌, Option, Some, None}
+use Rattle.std.specs.Prelude.{ℕ, ◌+◌, Bool, ◌&&◌, ◌||◌, ◌==◌, cond, List, [], ◌∷◌, ◌++◌}
 use Rattle.dip_lists.specs.First.{places}
-use Rattle.tl_params.specs.Operations.{is_nexus}
-use Rattle.tl_params.specs.declared.ops.Template.{Template}
-use Rattle.dip_graph.specs.Kinds.{kind_at}
-use Rattle.dip_graph.specs.declared.design.NodeKind.{NodeKind}
-use Rattle.dip_graph.specs.declared.design.NodeKind.TheVariants.{Source, Sink, Ruled}
+use Rattle.dip_graph.specs.Kinds.{ruled_kind_at}
 use Rattle.dip_graph.specs.declared.design.NodeEntry.{NodeEntry}
 use Rattle.dip_graph.specs.declared.edges.Edge.{Edge}
-use Rattle.dip_rule.specs.Stated.{StatedRule, template_of}
+use Rattle.dip_rule.specs.Stated.{StatedRule, is_nexus_kind}
 use Rattle.dip_negotiate.specs.declared.steps.End.{End}
 use Rattle.dip_negotiate.specs.declared.steps.Step.{Step}
 
--- where an edge comes from, and where it goes to
+-- where an edge comes from
 abbrev pub source_end : Edge → End
 source_end edge = record { node = edge.from; port = edge.from_port }
 
+-- where an edge goes to
 abbrev pub sink_end : Edge → End
 sink_end edge = record { node = edge.to; port = edge.to_port }
-
-abbrev pub is_nexus_template : Option Template → Bool
-is_nexus_template None = false
-is_nexus_template (Some template) = is_nexus template
-
-abbrev pub is_nexus_kind : List StatedRule → Option NodeKind → Bool
-is_nexus_kind rules None = false
-is_nexus_kind rules (Some (Source ports ids emits)) = false
-is_nexus_kind rules (Some (Sink beat ports supports)) = false
-is_nexus_kind rules (Some (Ruled kind args)) = is_nexus_template (template_of rules kind)
-
--- a node all of whose in ports and out ports belong together
-abbrev pub is_nexus_node : List StatedRule → List NodeEntry → ℕ → Bool
-is_nexus_node rules nodes node = is_nexus_kind rules (kind_at nodes node)
 
 -- two ends at one node belong together where it is a nexus, or where they have the same port number
 abbrev pub belongs : Bool → End → End → Bool
@@ -41,19 +24,25 @@ belongs nexus a b = (a.node == b.node) && (nexus || (a.port == b.port))
 abbrev pub joined_to : Bool → (Edge → End) → End → List Edge → List ℕ
 joined_to nexus far own edges = places (λ number edge. belongs nexus own (far edge)) 0 edges
 
--- the edges of which the port of an edge is made: those that reach its near end's node, all of them at a nexus, else those at the same port
+-- the edges of which the port of an edge is made: those that reach its near end's node, all of them at a nexus, else
+-- those at the same port
 abbrev pub asked : List StatedRule → List NodeEntry → List Edge → (Edge → End) → (Edge → End) → Edge → List ℕ
-asked rules nodes edges near far edge = joined_to (is_nexus_node rules nodes (near edge).node) far (near edge) edges
+asked rules nodes edges near far edge =
+    joined_to (is_nexus_kind rules (ruled_kind_at nodes (near edge).node)) far (near edge) edges
 
 -- ---- the order of a pass
 
+-- an edge with its number
 abbrev pub step : ℕ → Edge → Step
 step number edge = record { number = number; edge = edge }
 
 -- the edges whose near ends are at a node, numbered from a first one
 abbrev pub steps_at : (Edge → End) → ℕ → ℕ → List Edge → List Step
 steps_at near node number [] = []
-steps_at near node number (edge ∷ edges) = cond ((near edge).node == node) (step number edge ∷ steps_at near node (number + 1) edges) (steps_at near node (number + 1) edges)
+steps_at near node number (edge ∷ edges) =
+    cond ((near edge).node == node)
+    (step number edge ∷ steps_at near node (number + 1) edges)
+    (steps_at near node (number + 1) edges)
 
 -- going down: node by node in their order, each with the edges that leave it
 abbrev pub steps_down : List ℕ → List Edge → List Step

@@ -2,30 +2,19 @@ ghost use Rattle.std.specs.Prelude.{◌≡◌, ◌<◌, ◌^◌, length, IfOk};
 ghost use Rattle.dip_negotiate.specs.Places as spec;
 
 use crate::steps::{End, sink_end, source_end};
-use dip_graph::{Edge, NodeEntry, NodeKind, Numbers, kind_at};
+use dip_graph::{Edge, NodeEntry, Numbers, ruled_kind_at};
 use dip_lists::{Items, Memory};
 use dip_rule::{Rules, Stating};
 use std::alloc::Global;
 
-/// Whether all in ports and out ports of a node belong together.
-pub fn is_nexus_node(rules: &Rules, nodes: &[NodeEntry], node: u32) -> bool
-    ensures { result ≡ spec.is_nexus_node (⟦<Rules as Stating>⟧.stated rules.now) nodes.now node }
-{
-    let Some(NodeKind::Ruled { kind, .. }) = kind_at(nodes, node) else {
-        return false;
-    };
-    match rules.template_of(kind) {
-        Some(template) => template.is_nexus(),
-        None => false,
-    }
-}
-
+// Whether an end belongs to another one: at the same node, and there at the same port, or at a nexus.
 fn belongs(nexus: bool, own: End, other: End) -> bool
     ensures { result ≡ spec.belongs nexus own other }
 {
     own.node == other.node && (nexus || own.port == other.port)
 }
 
+// The numbers of the edges that go to an end, or at a nexus to its node.
 fn entering(alloc: Global, nexus: bool, own: End, edges: &[Edge]) -> Result<Numbers, Memory>
     requires { length edges.now < 2 ^ 32 }
     ensures { IfOk result (λ numbers. numbers ≡ spec.joined_to nexus spec.sink_end own edges.now) }
@@ -39,6 +28,7 @@ fn entering(alloc: Global, nexus: bool, own: End, edges: &[Edge]) -> Result<Numb
     Ok(numbers)
 }
 
+// The numbers of the edges that come from an end, or at a nexus from its node.
 fn leaving(alloc: Global, nexus: bool, own: End, edges: &[Edge]) -> Result<Numbers, Memory>
     requires { length edges.now < 2 ^ 32 }
     ensures { IfOk result (λ numbers. numbers ≡ spec.joined_to nexus spec.source_end own edges.now) }
@@ -66,7 +56,8 @@ pub fn asks_down(
         spec.sink_end edge.now) }
 {
     let own = source_end(edge);
-    entering(alloc, is_nexus_node(rules, nodes, own.node), own, edges)
+    let nexus = rules.is_nexus_kind(ruled_kind_at(nodes, own.node));
+    entering(alloc, nexus, own, edges)
 }
 
 /// The numbers of the edges of which what goes up an edge is made.
@@ -83,5 +74,6 @@ pub fn asks_up(
         spec.source_end edge.now) }
 {
     let own = sink_end(edge);
-    leaving(alloc, is_nexus_node(rules, nodes, own.node), own, edges)
+    let nexus = rules.is_nexus_kind(ruled_kind_at(nodes, own.node));
+    leaving(alloc, nexus, own, edges)
 }

@@ -8,7 +8,7 @@ mod ports;
 mod solution;
 mod steps;
 
-pub use asking::is_nexus_node;
 pub use laws::negotiation_law;
 pub use solution::{NegFault, Solution, negotiate};
+// The types of which the definitions of passes speak.
 pub use steps::{End, Step, Steps};

@@ -168,6 +168,7 @@ impl Negotiated for UpPort {
     }
 }
 
+// Adds a copy of the port with a number, where there is one.
 #[tactic(auto, using(crate::proofs::Picks::past_all, crate::proofs::Picks::picked_here))]
 fn pick<P: Negotiated>(
     alloc: Global,
@@ -184,6 +185,7 @@ fn pick<P: Negotiated>(
     }
 }
 
+// Copies of the ports with these numbers.
 #[tactic(auto, using(crate::proofs::Picks::beside_more))]
 fn picked<P: Negotiated>(alloc: Global, ports: &[P], numbers: &[u32]) -> Result<Items<P>, Memory>
     ensures { IfOk result (λ some. some ≡ picked ports.now numbers.now) }
@@ -213,6 +215,7 @@ fn stated<P: Negotiated>(
     P::says(alloc, rules, nodes, edges, edge, some.as_slice())
 }
 
+// Puts a port in the place with a number, where there is one.
 #[tactic(auto, using(crate::proofs::Picks::set_past))]
 fn put<P: Drop>(ports: &mut [P], number: u32, port: P)
     ensures { ports.new ≡ slice_set ports.old number port }
@@ -222,6 +225,7 @@ fn put<P: Drop>(ports: &mut [P], number: u32, port: P)
     }
 }
 
+// So many ports that aren't known yet.
 fn unknowns<P: Negotiated>(alloc: Global, count: usize) -> Result<Vec<P>, Memory>
     ensures { IfOk result (λ ports. ports.items ≡ replicate count P.unknown) }
 {

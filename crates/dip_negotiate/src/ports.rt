@@ -9,6 +9,7 @@ use dip_sets::IdRange;
 use std::alloc::Global;
 use tl_params::{AddressLists, Addresses, DownPort, Master, Ops, Slave, UpPort};
 
+// A source's own port: one master with the ids from 0 on.
 fn source_port(
     alloc: Global,
     node: u32,
@@ -28,6 +29,7 @@ fn source_port(
     Ok(DownPort { masters })
 }
 
+// A copy of the sets of a port, none where there is no such port.
 fn addresses_at(alloc: Global, ports: &AddressLists, port: u32) -> Result<Addresses, Memory>
     ensures { IfOk result (λ sets. sets ≡ spec.addresses_at ports.now port) }
 {
@@ -37,6 +39,7 @@ fn addresses_at(alloc: Global, ports: &AddressLists, port: u32) -> Result<Addres
     }
 }
 
+// A sink's own port: one slave with the addresses of that port.
 fn sink_port(
     alloc: Global,
     edge: &Edge,

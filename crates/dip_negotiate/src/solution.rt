@@ -2,10 +2,9 @@ ghost use Rattle.std.specs.Prelude.{◌≡◌, ◌<◌, ◌^◌, Ok, length, IfO
 ghost use Rattle.dip_graph.specs.Orders.{canonical_order};
 ghost use Rattle.dip_negotiate.specs.Negotiation as spec;
 
-use crate::asking::is_nexus_node;
 use crate::pass::{PassFault, pass};
 use crate::steps::{End, sink_end, source_end, steps_down, steps_up};
-use dip_graph::{Design, Edge, NodeEntry, canonical_order};
+use dip_graph::{Design, Edge, NodeEntry, canonical_order, ruled_kind_at};
 use dip_lists::Memory;
 use dip_rule::{Rules, Stating};
 use std::alloc::Global;
@@ -43,16 +42,18 @@ impl From<Memory> for NegFault {
     }
 }
 
+// Where a rule is asked for the port at an end: its node and its port, which is 0 at a nexus.
 fn place_of(rules: &Rules, nodes: &[NodeEntry], own: End) -> End
     ensures { result ≡ spec.place_of (⟦<Rules as Stating>⟧.stated rules.now) nodes.now own }
 {
-    let nexus = is_nexus_node(rules, nodes, own.node);
+    let nexus = rules.is_nexus_kind(ruled_kind_at(nodes, own.node));
     End {
         node: own.node,
         port: if nexus { 0 } else { own.port },
     }
 }
 
+// What goes down all edges, or the first refusal in canonical order.
 fn down_ports(
     alloc: Global,
     design: &Design,
@@ -79,6 +80,7 @@ fn down_ports(
     }
 }
 
+// What goes up all edges, or the first refusal in the reversed order.
 fn up_ports(
     alloc: Global,
     design: &Design,
@@ -107,9 +109,8 @@ fn up_ports(
 
 /// What goes down and up all edges of a design, by the rules of its nodes.
 ///
-/// `NegFault::DownRefused` names the first refusal in canonical order, and `NegFault::UpRefused`, where
-/// nothing is
-/// refused down, the first one in the reversed order.
+/// `NegFault::DownRefused` names the first refusal in canonical order, and `NegFault::UpRefused`, where nothing
+/// is refused down, the first one in the reversed order.
 pub fn negotiate(
     alloc: Global,
     design: &Design,

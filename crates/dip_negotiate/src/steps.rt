@@ -43,6 +43,7 @@ pub fn sink_end(edge: &Edge) -> End
     }
 }
 
+// Adds the edges from a node, each with its number.
 fn add_steps_from(steps: &mut Steps, node: u32, edges: &[Edge]) -> Result<(), Memory>
     requires { length edges.now < 2 ^ 32 }
     ensures { OnOk result (steps.new ≡ steps.old ++ spec.steps_at spec.source_end node 0 edges.now) }
@@ -58,6 +59,7 @@ fn add_steps_from(steps: &mut Steps, node: u32, edges: &[Edge]) -> Result<(), Me
     Ok(())
 }
 
+// Adds the edges to a node, each with its number.
 fn add_steps_to(steps: &mut Steps, node: u32, edges: &[Edge]) -> Result<(), Memory>
     requires { length edges.now < 2 ^ 32 }
     ensures { OnOk result (steps.new ≡ steps.old ++ spec.steps_at spec.sink_end node 0 edges.now) }

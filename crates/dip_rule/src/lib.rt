@@ -6,8 +6,6 @@ mod fault;
 mod rule;
 mod rules;
 mod stored;
-#[cfg(test)]
-mod tests;
 
 pub use asked::{AskedDown, AskedUp, ByDown, ByUp};
 pub use fault::RuleFault;

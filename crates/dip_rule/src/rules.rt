@@ -1,6 +1,7 @@
 ghost use Rattle.std.specs.Prelude.{◌≡◌, List, map};
 ghost use Rattle.std.specs.Option.{option_map};
-ghost use Rattle.dip_rule.specs.Stated.{Answers, StatedRule, down_by, place_of, rule_of, stated_rule, template_of, up_by};
+ghost use Rattle.dip_rule.specs.Stated.{Answers, StatedRule, down_by, entry_place, rule_of, stated_rule, up_by};
+ghost use Rattle.dip_rule.specs.Stated as spec;
 
 use crate::{Rule, RuleFault};
 use dip_lists::Items;
@@ -19,7 +20,7 @@ pub struct RuleEntry {
 /// Entries in order.
 pub type RuleEntries = Items<RuleEntry>;
 
-/// The rules of kinds, which contracts see as the list of what they state.
+/// The rules of kinds: the first entry of a kind decides. Contracts speak of what they state, `Stating::stated`.
 #[derive(Drop)]
 pub struct Rules {
     pub entries: RuleEntries,
@@ -31,7 +32,8 @@ pub trait Stating {
 }
 
 impl Stating for Rules {
-    ghost stated = { λ rules. map (λ e. stated_rule e.kind e.template ((Rule-box e.rule).says_down e.rule.value) ((Rule-box e.rule).says_up e.rule.value)) rules.entries };
+    ghost stated = { λ rules. map (λ e. stated_rule e.kind e.template
+        ((Rule-box e.rule).says_down e.rule.value) ((Rule-box e.rule).says_up e.rule.value)) rules.entries };
 }
 
 impl RuleEntry {
@@ -51,7 +53,7 @@ impl RuleEntry {
 impl Rules {
     /// The place of the first entry of a kind; `None` exactly where there is none.
     pub fn find(&self, kind: &Name) -> Option<usize>
-        ensures { result ≡ place_of (⟦<Rules as Stating>⟧.stated self.now) kind.now }
+        ensures { result ≡ entry_place (⟦<Rules as Stating>⟧.stated self.now) kind.now }
     {
         for (place, entry) in self.entries.as_slice().iter().enumerate() {
             if entry.kind.bytes() == kind.bytes() {
@@ -76,14 +78,27 @@ impl Rules {
 
     /// What is built for the nodes of a kind; `None` exactly where it has no entry.
     pub fn template_of(&self, kind: &Name) -> Option<Template>
-        ensures { result ≡ template_of (⟦<Rules as Stating>⟧.stated self.now) kind.now }
+        ensures { result ≡ spec.template_of (⟦<Rules as Stating>⟧.stated self.now) kind.now }
     {
-        for entry in self.entries.as_slice() {
-            if entry.kind.bytes() == kind.bytes() {
-                return Some(entry.template);
-            }
+        match self.entry_of(kind) {
+            Some(entry) => Some(entry.template),
+            None => None,
         }
-        None
+    }
+
+    /// Whether all in ports and out ports of a node belong together, by the kind whose rule makes them; false
+    /// where there is no such kind, or it has no entry.
+    pub fn is_nexus_kind(&self, kind: Option<&Name>) -> bool
+        ensures { result ≡ spec.is_nexus_kind (⟦<Rules as Stating>⟧.stated self.now)
+            (option_map (λ name. name.now) kind.entry) }
+    {
+        let Some(kind) = kind else {
+            return false;
+        };
+        match self.template_of(kind) {
+            Some(template) => template.is_nexus(),
+            None => false,
+        }
     }
 
     /// What the first entry of a kind answers down; a refusal with 0 where there is none.

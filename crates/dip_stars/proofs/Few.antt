@@ -1,5 +1,5 @@
 -- How many edges binds make.
-use Rattle.std.proofs.Common.{◌≡◌, ℕ, zero, suc, ◌+◌, ◌≤◌, Bool, true, false, cond, List, [], ◌∷◌, ◌++◌, length, None, refl, sym, ap, ◌∙◌, arith}
+use Rattle.std.proofs.Common.{◌≡◌, ℕ, zero, suc, ◌+◌, ◌≤◌, Bool, true, false, cond, List, [], ◌∷◌, ◌++◌, length, None, refl, arith}
 use Rattle.std.specs.Prelude.{nat_lt}
 use Rattle.std.proofs.lemmas.List.{length_push}
 use Rattle.std.proofs.lemmas.Bool.Decides.{nat_tests}
@@ -7,7 +7,7 @@ use Rattle.dip_lists.specs.First.{first}
 use Rattle.dip_graph.specs.declared.design.BindEntry.{BindEntry}
 use Rattle.dip_graph.specs.declared.edges.Edge.{Edge}
 use Rattle.dip_stars.specs.declared.rounds.Counted.{Counted}
-use Rattle.dip_stars.specs.Edges.{copies, total, excess, most_edges, edge_behind, with_copies, edges_behind, edges_of}
+use Rattle.dip_stars.specs.Edges.{copies, total, excess, edge_behind, with_copies, edges_behind, edges_of}
 
 copies_long : (more : ℕ) (earlier : List Edge) (number : ℕ) (b : BindEntry) → length (with_copies more earlier number b) ≡ length earlier + more
 copies_long zero earlier number b = omega arith

@@ -1,16 +1,15 @@
 -- The edges that binds make join the nodes of these binds.
-use Rattle.std.proofs.Common.{◌≡◌, ℕ, zero, suc, ◌+◌, List, [], ◌∷◌, ◌++◌, length, map, Some, refl, sym, ap, ◌∙◌, subst, arith}
+use Rattle.std.proofs.Common.{◌≡◌, ℕ, zero, suc, ◌+◌, List, [], ◌∷◌, ◌++◌, length, map, Some, refl, sym, ap, ◌∙◌, arith}
 use Rattle.std.specs.Prelude.{slice_get, All}
 use Rattle.std.proofs.lemmas.List.Elements.{All-push}
 use Rattle.dip_graph.specs.declared.design.NodeEntry.{NodeEntry}
 use Rattle.dip_graph.specs.declared.design.BindEntry.{BindEntry}
-use Rattle.dip_graph.specs.declared.design.Design.{Design}
 use Rattle.dip_graph.specs.declared.edges.Edge.{Edge}
 use Rattle.dip_rule.specs.Stated.{StatedRule}
-use Rattle.dip_negotiate.specs.Negotiation.{FollowsBind}
+use Rattle.dip_graph.specs.Edges.{FollowsBind}
 use Rattle.dip_stars.specs.declared.rounds.Counted.{Counted}
 use Rattle.dip_stars.specs.Rounds.{first_counts, next_count, next_counts, after_rounds, counts_of}
-use Rattle.dip_stars.specs.Edges.{copies, edge_behind, with_copies, edges_behind, edges_of, design_counts}
+use Rattle.dip_stars.specs.Edges.{copies, edge_behind, with_copies, edges_behind, design_counts}
 use Rattle.dip_stars.specs.Follows.{EachFollowsItsBind}
 
 abbrev binds_in : List Counted → List BindEntry

@@ -1,3 +1,4 @@
 pub mod Turns
 pub mod Follow
 pub mod Few
+mod Numbered

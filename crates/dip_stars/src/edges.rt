@@ -58,6 +58,7 @@ fn edge_behind(earlier: &[Edge], number: u32, bind: &BindEntry) -> Result<Edge, 
     })
 }
 
+// Adds so many edges of a bind, each at the next ports of its nodes.
 #[tactic(auto, using(crate::proofs::Turns::one_copy))]
 fn add_copies(edges: &mut Edges, copies: u64, number: u32, bind: &BindEntry) -> Result<(), Memory>
     ensures { OnOk result (edges.new ≡ spec.with_copies copies edges.old number bind.now) }

@@ -7,5 +7,6 @@ mod rounds;
 mod stars;
 
 pub use laws::edges_law;
+// The types of which the definitions of rounds speak.
 pub use rounds::{Counted, Counts};
 pub use stars::{StarFault, resolve};

@@ -2,9 +2,8 @@ ghost use Rattle.std.specs.Prelude.{◌≡◌, ◌+ℤ◌, ◌-ℤ◌, pos, leng
 ghost use Rattle.dip_graph.specs.Kinds.{kind_at};
 ghost use Rattle.dip_stars.specs.Rounds as spec;
 
-use dip_graph::{BindEntry, NodeEntry, NodeKind, Star, kind_at};
+use dip_graph::{BindEntry, NodeEntry, NodeKind, Star, kind_at, ruled_kind_at};
 use dip_lists::{Items, Memory, Same};
-use dip_negotiate::is_nexus_node;
 use dip_rule::{Rules, Stating};
 use std::alloc::Global;
 
@@ -35,13 +34,14 @@ pub fn decider(bind: &BindEntry) -> Option<u32>
     }
 }
 
+// A bind before any round: one edge where no node decides, or a nexus.
 fn first_count(rules: &Rules, nodes: &[NodeEntry], bind: &BindEntry) -> Counted
     ensures { result ≡ spec.first_count (⟦<Rules as Stating>⟧.stated rules.now) nodes.now bind.now }
 {
     let number = match decider(bind) {
         None => Some(1),
         Some(node) => {
-            if is_nexus_node(rules, nodes, node) {
+            if rules.is_nexus_kind(ruled_kind_at(nodes, node)) {
                 Some(1)
             } else {
                 None
@@ -54,6 +54,7 @@ fn first_count(rules: &Rules, nodes: &[NodeEntry], bind: &BindEntry) -> Counted
     }
 }
 
+// All binds before any round.
 fn first_counts(
     alloc: Global,
     rules: &Rules,
@@ -89,9 +90,8 @@ pub fn known_number(count: &Counted) -> i64
     count.number.unwrap_or(0)
 }
 
-// No sum of a design comes near 2^63, since each node decides one bind at most; one that did would be
-// taken as want of
-// memory.
+// No sum of a design comes near 2^63, since each node decides one bind at most; one that did would be taken as
+// want of memory.
 fn plus(a: i64, b: i64) -> Result<i64, Memory>
     ensures { IfOk result (λ sum. sum ≡ a +ℤ b) }
 {
@@ -111,6 +111,7 @@ pub fn signed(count: usize) -> Result<i64, Memory>
     }
 }
 
+// The difference; one that doesn't fit is taken as want of memory.
 fn minus(a: i64, b: i64) -> Result<i64, Memory>
     ensures { IfOk result (λ rest. rest ≡ a -ℤ b) }
 {
@@ -146,6 +147,7 @@ pub fn sum_from(node: u32, counts: &[Counted]) -> Result<i64, Memory>
     Ok(sum)
 }
 
+// What the binds from a node have to sum up to: the ports of a source, and what comes to another node.
 fn due_from(nodes: &[NodeEntry], node: u32, counts: &[Counted]) -> Result<i64, Memory>
     ensures { IfOk result (λ due. due ≡ spec.due_from node (kind_at nodes.now node) counts.now) }
 {
@@ -156,6 +158,7 @@ fn due_from(nodes: &[NodeEntry], node: u32, counts: &[Counted]) -> Result<i64, M
     }
 }
 
+// What the binds to a node have to sum up to: the ports of a sink, and what comes from another node.
 fn due_to(nodes: &[NodeEntry], node: u32, counts: &[Counted]) -> Result<i64, Memory>
     ensures { IfOk result (λ due. due ≡ spec.due_to node (kind_at nodes.now node) counts.now) }
 {
@@ -166,6 +169,7 @@ fn due_to(nodes: &[NodeEntry], node: u32, counts: &[Counted]) -> Result<i64, Mem
     }
 }
 
+// What is left for a star at its deciding node, whose other binds are known.
 fn left_for(nodes: &[NodeEntry], counts: &[Counted], bind: &BindEntry) -> Result<i64, Memory>
     ensures { IfOk result (λ left. left ≡ spec.left_for nodes.now counts.now bind.now.star bind.now) }
 {
@@ -182,6 +186,7 @@ fn left_for(nodes: &[NodeEntry], counts: &[Counted], bind: &BindEntry) -> Result
     }
 }
 
+// Whether a star is the only bind of its deciding node that isn't known.
 fn is_last(counts: &[Counted], node: Option<u32>) -> bool
     ensures { result ≡ spec.is_last counts.now node }
 {
@@ -191,6 +196,7 @@ fn is_last(counts: &[Counted], node: Option<u32>) -> bool
     }
 }
 
+// What is left for a star, where it is decided in this round.
 fn decided(nodes: &[NodeEntry], counts: &[Counted], bind: &BindEntry) -> Result<Option<i64>, Memory>
     ensures { IfOk result (λ number. number ≡ spec.decided nodes.now counts.now bind.now) }
 {
@@ -201,6 +207,7 @@ fn decided(nodes: &[NodeEntry], counts: &[Counted], bind: &BindEntry) -> Result<
     }
 }
 
+// A bind after a round: what is known stays.
 fn next_count(nodes: &[NodeEntry], counts: &[Counted], count: &Counted) -> Result<Counted, Memory>
     ensures { IfOk result (λ next. next ≡ spec.next_count nodes.now counts.now count.now) }
 {
@@ -214,6 +221,7 @@ fn next_count(nodes: &[NodeEntry], counts: &[Counted], count: &Counted) -> Resul
     })
 }
 
+// All binds after a round, each from the counts of the round before.
 fn next_counts(alloc: Global, nodes: &[NodeEntry], counts: &[Counted]) -> Result<Counts, Memory>
     ensures { IfOk result (λ next. next ≡ spec.next_counts nodes.now counts.now) }
 {

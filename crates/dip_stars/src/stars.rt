@@ -5,9 +5,8 @@ ghost use Rattle.dip_stars.specs.Edges as spec;
 
 use crate::edges::{edges_of, total};
 use crate::rounds::{Counted, counts_of, decider, known_number, signed, sum_from, sum_to};
-use dip_graph::{Design, Edges, NodeEntry, NodeKind};
+use dip_graph::{Design, Edges, NodeEntry, NodeKind, ruled_kind_at};
 use dip_lists::Memory;
-use dip_negotiate::is_nexus_node;
 use dip_rule::{Rules, Stating};
 use std::alloc::Global;
 use thiserror::Error;
@@ -18,8 +17,8 @@ const MOST_EDGES: u64 = 1024;
 /// Why binds make no edges.
 #[derive(Clone, Copy, Debug, PartialEq, Eq, Error)]
 pub enum StarFault {
-    /// The least bind that waits for others that wait for it.
-    #[error("bind {bind} waits for a bind that waits for it")]
+    /// The least bind that isn't known after as many rounds as there are binds.
+    #[error("bind {bind} waits for binds that wait for each other")]
     StarsWait { bind: u32 },
     /// The least node whose binds don't sum up.
     #[error("the binds of node {node} don't sum up")]
@@ -42,6 +41,7 @@ impl From<Memory> for StarFault {
     }
 }
 
+// The least bind that isn't known.
 fn waiting(counts: &[Counted]) -> Option<u32>
     requires { length counts.now < 2 ^ 32 }
     ensures { result ≡ first (spec.waiting counts.now) }
@@ -66,6 +66,7 @@ fn is_negative_at(node: u32, counts: &[Counted]) -> bool
     counts.iter().any(|count| decides_negative(node, count))
 }
 
+// Whether a node with a rule has too few edges on a side, or not as many on the one as on the other.
 fn ruled_is_unfilled(nexus: bool, ins: i64, outs: i64) -> bool
     ensures { result ≡ spec.ruled_is_unfilled nexus ins outs }
 {
@@ -76,6 +77,7 @@ fn ruled_is_unfilled(nexus: bool, ins: i64, outs: i64) -> bool
     }
 }
 
+// Whether the binds of a node don't sum up to what its kind needs.
 fn kind_is_unfilled(
     rules: &Rules,
     nodes: &[NodeEntry],
@@ -92,12 +94,13 @@ fn kind_is_unfilled(
         NodeKind::Ruled { .. } => {
             let ins = sum_to(node, counts)?;
             let outs = sum_from(node, counts)?;
-            let nexus = is_nexus_node(rules, nodes, node);
+            let nexus = rules.is_nexus_kind(ruled_kind_at(nodes, node));
             Ok(ruled_is_unfilled(nexus, ins, outs))
         }
     }
 }
 
+// Whether a node decides a negative number, or its binds don't sum up.
 fn node_is_unfilled(
     rules: &Rules,
     nodes: &[NodeEntry],
@@ -115,6 +118,7 @@ fn node_is_unfilled(
     }
 }
 
+// The least node that fails so.
 fn unfilled(rules: &Rules, nodes: &[NodeEntry], counts: &[Counted]) -> Result<Option<u32>, Memory>
     requires { length nodes.now < 2 ^ 32 }
     ensures { IfOk result (λ node. node ≡ first (spec.unfilled (⟦<Rules as Stating>⟧.stated rules.now)
@@ -128,6 +132,7 @@ fn unfilled(rules: &Rules, nodes: &[NodeEntry], counts: &[Counted]) -> Result<Op
     Ok(None)
 }
 
+// Each bind is known.
 fn all_known(counts: &[Counted]) -> Result<(), StarFault>
     requires { length counts.now < 2 ^ 32 }
     ensures passes { OnOk result (first (spec.waiting counts.now) ≡ None) }
@@ -139,6 +144,7 @@ fn all_known(counts: &[Counted]) -> Result<(), StarFault>
     }
 }
 
+// No node decides a negative number, and the binds of each sum up.
 fn all_filled(rules: &Rules, nodes: &[NodeEntry], counts: &[Counted]) -> Result<(), StarFault>
     requires { length nodes.now < 2 ^ 32 }
     ensures passes { OnOk result (first (spec.unfilled (⟦<Rules as Stating>⟧.stated rules.now) nodes.now
@@ -152,6 +158,7 @@ fn all_filled(rules: &Rules, nodes: &[NodeEntry], counts: &[Counted]) -> Result<
     }
 }
 
+// Binds make at most 1,024 edges.
 fn few_edges(counts: &[Counted]) -> Result<(), StarFault>
     ensures passes { OnOk result (first (spec.excess counts.now) ≡ None) }
     ensures err { IfErr result (spec.IsExcess counts.now) }
@@ -167,8 +174,7 @@ fn few_edges(counts: &[Counted]) -> Result<(), StarFault>
 /// The edges of a design, in the order of its binds, each bind as often as its number says.
 ///
 /// `StarFault::StarsWait` names the least bind that isn't known after as many rounds as there are binds. Else
-/// `StarFault::Arity` names the least node that decides a negative number or whose binds don't sum up,
-/// and else
+/// `StarFault::Arity` names the least node that decides a negative number or whose binds don't sum up, and else
 /// `StarFault::TooManyEdges` says how many edges there are where these are more than 1,024.
 #[tactic(auto, using(crate::proofs::Few::few_edges))]
 pub fn resolve(alloc: Global, design: &Design, rules: &Rules) -> Result<Edges, StarFault>

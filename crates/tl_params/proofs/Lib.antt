@@ -1,3 +1,4 @@
 mod OwnedBy
 pub mod Greatest
 mod Carrying
+pub mod OneOwner

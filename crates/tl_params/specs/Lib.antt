@@ -4,3 +4,4 @@ pub mod Operations
 pub mod OwnerLaw
 pub mod Owners
 pub mod CarriedLaw
+pub mod Apart

@@ -1,10 +1,12 @@
 //! The parameters of TileLink's ports: operations, masters and slaves, and who owns an address.
 #![tactic(auto)]
 
+mod apart;
 mod ops;
 mod ports;
 mod widths;
 
+pub use apart::one_owner_law;
 pub use ops::{Ack, Args, Numbers, Op, Ops, Policy, Template};
 pub use ports::{
     AddressLists, Addresses, DownPort, DownPorts, Master, Masters, Slave, Slaves, UpPort, UpPorts,

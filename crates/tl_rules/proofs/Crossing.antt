@@ -1,9 +1,9 @@
 -- Inputs that a crossbar can use, and the ranges of their ids.
-use Rattle.std.proofs.Common.{ℕ, zero, suc, ◌≡◌, ◌+◌, ◌*◌, ◌<◌, ◌≤◌, List, [], ◌∷◌, length, get_or, map, Bool, true, false, ◌&&◌, cond, nat_le, IsTrue, Result, Ok, Err, IfOk, All, refl, ap, ◌∙◌, arith}
+use Rattle.std.proofs.Common.{ℕ, zero, suc, ◌≡◌, ◌+◌, ◌*◌, ◌<◌, ◌≤◌, List, [], ◌∷◌, length, get_or, map, Bool, true, false, ◌&&◌, cond, nat_le, IsTrue, All, refl, ap, ◌∙◌, arith}
 use Rattle.std.specs.List.{list_all}
 use Rattle.std.proofs.lemmas.Bool.{leb-true, ltb-true}
 use Rattle.dip_sets.specs.Assignments.{rounded, goes_first, sum_before, ranges_from}
-use Rattle.dip_sets.proofs.Assigned.{rounded_is, rounded_small}
+use Rattle.dip_sets.proofs.Assigned.{ranges_length, rounded_is, rounded_small}
 use Rattle.tl_params.specs.Owners.{largest_end}
 use Rattle.tl_params.specs.declared.ports.Master.{Master}
 use Rattle.tl_params.specs.declared.ports.DownPort.{DownPort}
@@ -64,10 +64,6 @@ counts_length (p ∷ ps) = omega (arith, counts_length ps)
 
 -- ---- their ranges
 
-pub ranges_length : (place : ℕ) (all rs : List ℕ) → length (ranges_from place all rs) ≡ length rs
-ranges_length place all [] = refl
-ranges_length place all (r ∷ rs) = omega (arith, ranges_length (place + 1) all rs)
-
 rounded_length : (counts : List ℕ) → length (map rounded counts) ≡ length counts
 rounded_length [] = refl
 rounded_length (c ∷ cs) = omega (arith, rounded_length cs)
@@ -101,10 +97,6 @@ input_low ins h few =
     let rs = map rounded (map id_count ins) in
     let long : length rs ≡ length ins = rounded_length (map id_count ins) ∙ counts_length ins in
     ranges_low 0 (1024 * 1024) rs rs (λ own at. omega (arith, sum_small own at 0 rs (λ i d within. rounded_all (map id_count ins) i d (λ j e below. counts_small ins j e h below) within)))
-
-pub if_ok_same : {T E : Type 0} (r : Result T E) (y : T) (P : T → Type 0) → IfOk r (λ x. x ≡ y) → P y → IfOk r P
-if_ok_same (Ok x) y P e p = rw e p
-if_ok_same (Err e) y P h p = tt
 
 -- what a crossbar asks of its inputs
 pub usable_parts : (ins : List DownPort) → IsTrue (are_usable ins) → IsTrue (list_all is_usable ins) × (length ins ≤ 1024)

@@ -2,7 +2,6 @@
 use Rattle.std.proofs.Common.{ℕ, ◌≡◌, ◌≤◌, min, max, List, [], ◌∷◌, length, map, Bool, true, false, ◌&&◌, ◌==◌, ◌⊎◌, inl, inr, cond, nat_le, IsTrue, Option, Some, None, Result, Ok, Err, refl, sym, arith, le-leb}
 use Rattle.std.specs.List.{list_all, flat_map}
 use Rattle.std.proofs.lemmas.Bool.{leb-true}
-use Rattle.std.proofs.lemmas.Bool.Decides.{Decides-eqb}
 use Rattle.dip_sets.specs.SizeRanges.{SizeRange, size_range, has_size, is_within, meet, no_sizes}
 use Rattle.dip_sets.proofs.Ranges.{has_size_is}
 use Rattle.tl_params.specs.declared.ops.Ops.{Ops}
@@ -23,11 +22,9 @@ use Rattle.tl_rules.specs.RulesFit.{RulesFitLaw}
 use Rattle.tl_rules.proofs.Crossing.{and_left, and_right, usable_parts}
 use Rattle.tl_rules.proofs.Going.{and_true, or_true}
 use Rattle.tl_rules.proofs.Zips.{own_sets}
+use Rattle.dip_lists.proofs.Tests.{own_number}
 
 -- ---- a list beside itself
-
-own_number : (n : ℕ) → (n == n) ≡ true
-own_number n = (Decides-eqb n n).1 refl
 
 own_slave : (s : Slave) → is_same_slave s s ≡ true
 own_slave s = and_true _ _ (and_true _ _ (own_number s.node) (own_number s.port)) (own_sets s.addresses)

@@ -14,9 +14,11 @@ use Rattle.tl_rules.specs.Crossbars.{id_count, is_id_count, input_ranges, joined
 
 -- ---- ids: those of both edges, in order
 
+-- two masters have the same ids
 abbrev pub has_same_ids : Master → Master → Bool
 has_same_ids a b = a.ids.start == b.ids.start && a.ids.end == b.ids.end
 
+-- masters have the same ids as others, in the same order
 abbrev pub same_ids : List Master → List Master → Bool
 same_ids masters others = all_zip has_same_ids masters others
 
@@ -33,11 +35,12 @@ pub record EdgePorts : Type 0 where
   pub down : DownPort
   pub up : UpPort
 
+-- the ports of an edge, of their parts
 abbrev pub edge_ports : DownPort → UpPort → EdgePorts
 edge_ports down up = record { down = down; up = up }
 
--- an adapter between an in edge and an out edge. Where it has arguments they must be right: those of a fragmenter, whose pieces have at
--- least the bytes of one beat, and that of a shrinker.
+-- a fragmenter between an in edge and an out edge, if its arguments are right: its pieces have at least the bytes of one
+-- beat
 abbrev pub fragments_fit : Option SizeRange → EdgePorts → EdgePorts → Bool
 fragments_fit None above below = false
 fragments_fit (Some fragments) above below =
@@ -46,6 +49,7 @@ fragments_fit (Some fragments) above below =
     && above.up.beat == below.up.beat
     && nat_le below.up.beat fragments.min
 
+-- a shrinker between them, if its argument is right
 abbrev pub shrinks_fit : Option ℕ → EdgePorts → EdgePorts → Bool
 shrinks_fit None above below = false
 shrinks_fit (Some ids) above below =
@@ -53,6 +57,7 @@ shrinks_fit (Some ids) above below =
     && has_only_ids ids below.down.masters
     && above.up.beat == below.up.beat
 
+-- what is built from a template between them, which is never a crossbar
 abbrev pub adapter_fits : Template → List ℕ → EdgePorts → EdgePorts → Bool
 adapter_fits Buffer args above below =
     slaves_fit None above.up.slaves below.up.slaves
@@ -69,9 +74,11 @@ adapter_fits Xbar args above below = false
 
 -- each input of a crossbar shows the slaves of all outputs in order
 abbrev pub inputs_fit : List UpPort → List UpPort → Bool
-inputs_fit ins outs = list_all (λ input. slaves_fit None input.slaves (flat_map (λ output. output.slaves) outs)) ins
+inputs_fit ins outs =
+    list_all (λ input. slaves_fit None input.slaves (flat_map (λ output. output.slaves) outs)) ins
 
--- each output has the ids of all inputs in order, moved as the crossbar moves them; it can move 1 to 1,024 ids of at most 1,024 inputs
+-- each output has the ids of all inputs in order, moved as the crossbar moves them; it can move 1 to 1,024 ids of at
+-- most 1,024 inputs
 abbrev pub outputs_fit : List DownPort → List DownPort → Bool
 outputs_fit ins outs =
     nat_le (length ins) 1024
@@ -84,21 +91,29 @@ outputs_fit ins outs =
 abbrev pub are_edges : List DownPort → List UpPort → List ℕ → Bool
 are_edges down up edges = list_all (λ edge. nat_lt edge (length down) && nat_lt edge (length up)) edges
 
-abbrev pub down_at : List DownPort → ℕ → DownPort
-down_at down edge = unwrap_or (slice_get down edge) (record { masters = [] })
+-- what goes down an edge, no masters where it has no ports
+abbrev pub port_down : List DownPort → ℕ → DownPort
+port_down down edge = unwrap_or (slice_get down edge) (record { masters = [] })
 
-abbrev pub up_at : List UpPort → ℕ → UpPort
-up_at up edge = unwrap_or (slice_get up edge) (record { slaves = []; beat = 0 })
+-- what goes up an edge, no slaves where it has no ports
+abbrev pub port_up : List UpPort → ℕ → UpPort
+port_up up edge = unwrap_or (slice_get up edge) (record { slaves = []; beat = 0 })
 
-abbrev pub edge_at : List DownPort → List UpPort → ℕ → EdgePorts
-edge_at down up edge = edge_ports (down_at down edge) (up_at up edge)
+-- both
+abbrev pub ports_at : List DownPort → List UpPort → ℕ → EdgePorts
+ports_at down up edge = edge_ports (port_down down edge) (port_up up edge)
 
 -- an adapter has as many out edges as in edges, and stands between each two of them; a crossbar between all
 abbrev pub template_fits : Template → List ℕ → List ℕ → List ℕ → List DownPort → List UpPort → Bool
 template_fits template args ins outs down up =
     cond (is_nexus template)
-    (inputs_fit (map (up_at up) ins) (map (up_at up) outs) && outputs_fit (map (down_at down) ins) (map (down_at down) outs))
-    (all_zip (λ above below. adapter_fits template args (edge_at down up above) (edge_at down up below)) ins outs)
+    (
+      inputs_fit (map (port_up up) ins) (map (port_up up) outs)
+      && outputs_fit (map (port_down down) ins) (map (port_down down) outs)
+    )
+    (all_zip (λ above below. adapter_fits template args (ports_at down up above) (ports_at down up below)) ins outs)
 
+-- what is built for a node fits the ports of its edges, which all have ports
 abbrev pub fits : Template → List ℕ → List ℕ → List ℕ → List DownPort → List UpPort → Bool
-fits template args ins outs down up = are_edges down up ins && are_edges down up outs && template_fits template args ins outs down up
+fits template args ins outs down up =
+    are_edges down up ins && are_edges down up outs && template_fits template args ins outs down up

@@ -1,4 +1,5 @@
--- What fragmenters state. A fragmenter cuts gets and puts of more than a piece into pieces; atomics and intents pass whole.
+-- What fragmenters state. A fragmenter cuts gets and puts of more than a piece into pieces; atomics and intents pass
+-- whole.
 use Rattle.std.specs.Prelude.{ℕ, map, ◌==◌, nat_lt, cond, max, min, Ok}
 use Rattle.dip_sets.specs.SizeRanges.{SizeRange, size_range, has_size, meet}
 use Rattle.dip_rule.specs.Stated.{StatedAnswer}
@@ -12,12 +13,16 @@ use Rattle.tl_rules.specs.Refusals.{only, with_arguments, with_port}
 
 -- sizes behind the fragmenter: a larger one than a piece arrives as pieces
 abbrev pub cut : ℕ → SizeRange → SizeRange
-cut piece s = cond (s.max == 0) s (cond (nat_lt piece s.min) (size_range piece piece) (size_range s.min (min s.max piece)))
+cut piece s =
+    cond (s.max == 0) s (cond (nat_lt piece s.min) (size_range piece piece) (size_range s.min (min s.max piece)))
 
--- sizes before the fragmenter: all up to the largest transfer where pieces can go on, and else those that need no cutting
+-- sizes before the fragmenter: all up to the largest transfer where pieces can go on, and else those that need no
+-- cutting
 abbrev pub widened : SizeRange → SizeRange → SizeRange
-widened fragments s = cond (has_size s fragments.min) (size_range s.min (max s.max fragments.max)) (meet s (size_range 1 fragments.min))
+widened fragments s =
+    cond (has_size s fragments.min) (size_range s.min (max s.max fragments.max)) (meet s (size_range 1 fragments.min))
 
+-- operations behind the fragmenter
 abbrev pub cut_ops : ℕ → Ops → Ops
 cut_ops piece ops =
     record {
@@ -29,6 +34,7 @@ cut_ops piece ops =
       intent = ops.intent;
     }
 
+-- operations before the fragmenter
 abbrev pub widened_ops : SizeRange → Ops → Ops
 widened_ops fragments ops =
     record {
@@ -40,20 +46,31 @@ widened_ops fragments ops =
       intent = ops.intent;
     }
 
+-- a master behind the fragmenter
 abbrev pub cut_master : ℕ → Master → Master
 cut_master piece m = record { node = m.node; port = m.port; ids = m.ids; emits = cut_ops piece m.emits }
 
+-- a slave as it shows before the fragmenter
 abbrev pub widened_slave : SizeRange → Slave → Slave
-widened_slave fragments s = record { node = s.node; port = s.port; addresses = s.addresses; supports = widened_ops fragments s.supports }
+widened_slave fragments s =
+    record { node = s.node; port = s.port; addresses = s.addresses; supports = widened_ops fragments s.supports }
 
+-- what goes down behind the fragmenter
 abbrev pub cut_port : ℕ → DownPort → DownPort
 cut_port piece port = record { masters = map (cut_master piece) port.masters }
 
+-- what goes up before the fragmenter
 abbrev pub widened_port : SizeRange → UpPort → UpPort
 widened_port fragments port = record { slaves = map (widened_slave fragments) port.slaves; beat = port.beat }
 
+-- what it states down
 abbrev pub fragmenter_down : StatedAnswer DownPort
-fragmenter_down args ins = with_arguments (fragment_arguments args) (λ fragments. with_port (only ins) (λ port. Ok (cut_port fragments.min port)))
+fragmenter_down args ins =
+    with_arguments (fragment_arguments args)
+    (λ fragments. with_port (only ins) (λ port. Ok (cut_port fragments.min port)))
 
+-- what it states up
 abbrev pub fragmenter_up : StatedAnswer UpPort
-fragmenter_up args outs = with_arguments (fragment_arguments args) (λ fragments. with_port (only outs) (λ port. Ok (widened_port fragments port)))
+fragmenter_up args outs =
+    with_arguments (fragment_arguments args)
+    (λ fragments. with_port (only outs) (λ port. Ok (widened_port fragments port)))

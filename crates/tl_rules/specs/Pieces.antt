@@ -7,12 +7,15 @@ use Rattle.tl_params.specs.Carried.{fits_pieces}
 
 -- each size that is taken can go on: one of at most a piece as it is, and a larger one as pieces
 abbrev pub GoOn : ℕ → SizeRange → SizeRange → Type 0
-GoOn piece s t = (bytes : ℕ) → HasSize s bytes → (bytes ≤ piece → HasSize t bytes) × (piece < bytes → HasSize t piece)
+GoOn piece s t =
+    (bytes : ℕ) → HasSize s bytes → (bytes ≤ piece → HasSize t bytes) × (piece < bytes → HasSize t piece)
 
 -- a size that arrives: one of at most a piece, or a piece of a larger one
 abbrev pub Arrives : ℕ → SizeRange → ℕ → Type 0
-Arrives piece s bytes = (HasSize s bytes × (bytes ≤ piece)) ⊎ ((bytes ≡ piece) × (larger : ℕ) × HasSize s larger × (piece < larger))
+Arrives piece s bytes =
+    (HasSize s bytes × (bytes ≤ piece)) ⊎ ((bytes ≡ piece) × (larger : ℕ) × HasSize s larger × (piece < larger))
 
+-- what the sizes of a fragmenter with right arguments are good for
 pub record PiecesLaw : Type 0 where
   -- the test on sizes says that they can go on
   pub goes_on : (fragments s t : SizeRange) → AreFragments fragments → IsTrue (is_size_range s)
@@ -22,4 +25,5 @@ pub record PiecesLaw : Type 0 where
       → HasSize (cut fragments.min s) bytes ↔ Arrives fragments.min s bytes
   -- the sizes that its rule shows before it can go on, up to the largest transfer where a piece can
   pub shown : (fragments s : SizeRange) → GoOn fragments.min (widened fragments s) s
-  pub largest : (fragments s : SizeRange) → AreFragments fragments → HasSize s fragments.min → HasSize (widened fragments s) fragments.max
+  pub largest : (fragments s : SizeRange) → AreFragments fragments → HasSize s fragments.min
+      → HasSize (widened fragments s) fragments.max

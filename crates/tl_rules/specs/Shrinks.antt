@@ -30,10 +30,23 @@ cover_emits ops (m ∷ masters) = cover_emits (cover_ops ops m.emits) masters
 abbrev pub shrunk_port : ℕ → List Master → Result DownPort ℕ
 shrunk_port ids [] = Err 2
 shrunk_port ids (m ∷ masters) =
-    Ok (record { masters = record { node = m.node; port = m.port; ids = record { start = 0; end = ids }; emits = cover_emits m.emits masters } ∷ [] })
+    Ok (
+      record {
+        masters =
+            record {
+              node = m.node;
+              port = m.port;
+              ids = record { start = 0; end = ids };
+              emits = cover_emits m.emits masters;
+            } ∷ [];
+      }
+    )
 
+-- what it states down
 abbrev pub shrinker_down : StatedAnswer DownPort
-shrinker_down args ins = with_arguments (shrink_argument args) (λ ids. with_port (only ins) (λ port. shrunk_port ids port.masters))
+shrinker_down args ins =
+    with_arguments (shrink_argument args) (λ ids. with_port (only ins) (λ port. shrunk_port ids port.masters))
 
+-- what it states up: the port as it is
 abbrev pub shrinker_up : StatedAnswer UpPort
 shrinker_up args outs = with_arguments (shrink_argument args) (λ ids. with_port (only outs) (λ port. Ok port))

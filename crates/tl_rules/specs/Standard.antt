@@ -14,6 +14,7 @@ pub record Sides : Type 0 where
   pub down : StatedAnswer DownPort
   pub up : StatedAnswer UpPort
 
+-- what a rule states both ways, of its parts
 abbrev pub sides : StatedAnswer DownPort → StatedAnswer UpPort → Sides
 sides down up = record { down = down; up = up }
 
@@ -30,5 +31,5 @@ kinds_by buffer width fragmenter shrinker xbar =
 -- the standard rules
 abbrev pub standard : List StatedRule
 standard =
-    kinds_by (sides buffer_down buffer_up) (sides width_down width_up) (sides fragmenter_down fragmenter_up) (sides shrinker_down shrinker_up)
-    (sides xbar_down xbar_up)
+    kinds_by (sides buffer_down buffer_up) (sides width_down width_up) (sides fragmenter_down fragmenter_up)
+    (sides shrinker_down shrinker_up) (sides xbar_down xbar_up)

@@ -17,6 +17,7 @@ fn fits_pieces(pieces: &Sizes, sizes: &Sizes, real: &Sizes) -> bool
     sizes.meet(pieces).within(real) && (sizes.max() <= pieces.max() || real.contains(pieces.max()))
 }
 
+// Whether sizes fit those behind a cut, if there is one.
 fn sizes_fit(pieces: &Option<Sizes>, sizes: &Sizes, real: &Sizes) -> bool
     ensures { result ≡ carried.sizes_fit pieces.now sizes.now real.now }
 {
@@ -26,6 +27,7 @@ fn sizes_fit(pieces: &Option<Sizes>, sizes: &Sizes, real: &Sizes) -> bool
     }
 }
 
+// Whether operations fit those behind a cut; atomics and intents are never cut.
 fn ops_fit(pieces: &Option<Sizes>, ops: &Ops, real: &Ops) -> bool
     ensures { result ≡ carried.ops_fit pieces.now ops.now real.now }
 {
@@ -55,6 +57,7 @@ fn slave_fits(pieces: &Option<Sizes>, slave: &Slave, real: &Slave) -> bool
     is_same_slave(slave, real) && ops_fit(pieces, &slave.supports, &real.supports)
 }
 
+// Whether slaves fit others place by place.
 fn slaves_fit(pieces: &Option<Sizes>, slaves: &[Slave], real: &[Slave]) -> bool
     ensures { result ≡ carried.slaves_fit pieces.now slaves.now real.now }
 {
@@ -80,7 +83,7 @@ pub fn begin_with(slaves: &[Slave], real: &[Slave]) -> bool
     slaves_fit(&None, &slaves[..real.len()], real)
 }
 
-/// Whether two masters have the same ids.
+// Whether two masters have the same ids.
 fn has_same_ids(master: &Master, other: &Master) -> bool
     ensures { result ≡ spec.has_same_ids master.now other.now }
 {
@@ -102,6 +105,7 @@ pub fn same_ids(masters: &[Master], others: &[Master]) -> bool
     true
 }
 
+// Whether there is one master, with so many ids from 0 on.
 fn has_only_ids(ids: u32, masters: &[Master]) -> bool
     ensures { result ≡ spec.has_only_ids ids masters.now }
 {
@@ -124,6 +128,7 @@ fn masters_agree(above: &DownPort, below: &DownPort) -> bool
     same_ids(above.masters.as_slice(), below.masters.as_slice())
 }
 
+// Whether a fragmenter with these arguments fits the ports of both its edges.
 fn fragments_fit(
     args: &Args,
     above_down: &DownPort,
@@ -147,6 +152,7 @@ fn fragments_fit(
         && below_up.beat <= fragments.min()
 }
 
+// Whether a shrinker with this argument does.
 fn shrinks_fit(args: &Args, above_up: &UpPort, below_down: &DownPort, below_up: &UpPort) -> bool
     ensures { (above_down : DownPort) → result ≡ spec.shrinks_fit (shrink_argument args.now)
         (spec.edge_ports above_down above_up.now) (spec.edge_ports below_down.now below_up.now) }
@@ -190,17 +196,17 @@ fn adapter_fits(
 }
 
 /// What goes down an edge that exists.
-pub fn down_at<'a>(down: &'a [DownPort], edge: u32) -> &'a DownPort
+pub fn port_down<'a>(down: &'a [DownPort], edge: u32) -> &'a DownPort
     requires { edge < length down.now }
-    ensures { result.now ≡ spec.down_at down.now edge }
+    ensures { result.now ≡ spec.port_down down.now edge }
 {
     &down[edge as usize]
 }
 
 /// What goes up an edge that exists.
-pub fn up_at<'a>(up: &'a [UpPort], edge: u32) -> &'a UpPort
+pub fn port_up<'a>(up: &'a [UpPort], edge: u32) -> &'a UpPort
     requires { edge < length up.now }
-    ensures { result.now ≡ spec.up_at up.now edge }
+    ensures { result.now ≡ spec.port_up up.now edge }
 {
     &up[edge as usize]
 }
@@ -211,6 +217,7 @@ fn is_edge(edge: u32, down: &[DownPort], up: &[UpPort]) -> bool
     (edge as usize) < down.len() && (edge as usize) < up.len()
 }
 
+// Whether each edge has ports.
 fn are_edges(edges: &[u32], down: &[DownPort], up: &[UpPort]) -> bool
     ensures value { result ≡ spec.are_edges down.now up.now edges.now }
     ensures down { IsTrue result → All (λ edge. edge < length down.now) edges.now }
@@ -224,6 +231,7 @@ fn are_edges(edges: &[u32], down: &[DownPort], up: &[UpPort]) -> bool
     true
 }
 
+// Whether what is built between two edges fits their ports.
 fn edges_fit(
     template: Template,
     args: &Args,
@@ -236,19 +244,20 @@ fn edges_fit(
     requires above_up { above < length up.now }
     requires below_down { below < length down.now }
     requires below_up { below < length up.now }
-    ensures { result ≡ spec.adapter_fits template args.now (spec.edge_at down.now up.now above)
-        (spec.edge_at down.now up.now below) }
+    ensures { result ≡ spec.adapter_fits template args.now (spec.ports_at down.now up.now above)
+        (spec.ports_at down.now up.now below) }
 {
     adapter_fits(
         template,
         args,
-        down_at(down, above),
-        up_at(up, above),
-        down_at(down, below),
-        up_at(up, below),
+        port_down(down, above),
+        port_up(up, above),
+        port_down(down, below),
+        port_up(up, below),
     )
 }
 
+// Whether it does between each in edge and the out edge at its place.
 fn adapters_fit(
     template: Template,
     args: &Args,
@@ -262,7 +271,7 @@ fn adapters_fit(
     requires outs_down { All (λ edge. edge < length down.now) outs.now }
     requires outs_up { All (λ edge. edge < length up.now) outs.now }
     ensures { result ≡ carried.all_zip (λ above below. spec.adapter_fits template args.now
-        (spec.edge_at down.now up.now above) (spec.edge_at down.now up.now below)) ins.now outs.now }
+        (spec.ports_at down.now up.now above) (spec.ports_at down.now up.now below)) ins.now outs.now }
 {
     if ins.len() != outs.len() {
         return false;

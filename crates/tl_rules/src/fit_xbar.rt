@@ -1,24 +1,25 @@
 ghost use Rattle.std.specs.Prelude.{◌≡◌, ◌<◌, ◌≤◌, length, map, slice_get, take, None, Some, All, IsTrue};
 ghost use Rattle.std.specs.List.{flat_map, list_all};
-ghost use Rattle.dip_sets.specs.Assignments.{goes_first, rounded, sum_before};
+ghost use Rattle.dip_sets.specs.Assignments.{rounded, sum_before};
 ghost use Rattle.tl_rules.specs.Crossbars.{id_count, is_id_count, input_ranges, joined_masters, shifted_master};
 ghost use Rattle.tl_params.specs.Carried as carried;
 ghost use Rattle.tl_rules.specs.Fits as spec;
 
-use crate::fit::{begin_with, down_at, same_ids, up_at};
+use crate::fit::{begin_with, port_down, same_ids, port_up};
 use crate::ports::behind;
 use crate::xbar::is_id_count;
+use dip_sets::{goes_first, rounded_up};
 use tl_params::{DownPort, Master, Slave, UpPort, largest_end};
 
 // Whether slaves are those of all outputs in order.
 fn shows_outputs(slaves: &[Slave], outs: &[u32], up: &[UpPort]) -> bool
     requires { All (λ edge. edge < length up.now) outs.now }
     ensures { result ≡ carried.slaves_fit None slaves.now (flat_map (λ output. output.slaves)
-        (map (spec.up_at up.now) outs.now)) }
+        (map (spec.port_up up.now) outs.now)) }
 {
     let mut rest = slaves;
     for output in outs {
-        let real = up_at(up, *output).slaves.as_slice();
+        let real = port_up(up, *output).slaves.as_slice();
         if !begin_with(rest, real) {
             return false;
         }
@@ -31,10 +32,10 @@ fn shows_outputs(slaves: &[Slave], outs: &[u32], up: &[UpPort]) -> bool
 pub fn inputs_fit(ins: &[u32], outs: &[u32], up: &[UpPort]) -> bool
     requires ins { All (λ edge. edge < length up.now) ins.now }
     requires outs { All (λ edge. edge < length up.now) outs.now }
-    ensures { result ≡ spec.inputs_fit (map (spec.up_at up.now) ins.now) (map (spec.up_at up.now) outs.now) }
+    ensures { result ≡ spec.inputs_fit (map (spec.port_up up.now) ins.now) (map (spec.port_up up.now) outs.now) }
 {
     for input in ins {
-        if !shows_outputs(up_at(up, *input).slaves.as_slice(), outs, up) {
+        if !shows_outputs(port_up(up, *input).slaves.as_slice(), outs, up) {
             return false;
         }
     }
@@ -44,53 +45,39 @@ pub fn inputs_fit(ins: &[u32], outs: &[u32], up: &[UpPort]) -> bool
 // Whether each input needs 1 to 1,024 ids.
 fn have_id_counts(ins: &[u32], down: &[DownPort]) -> bool
     requires { All (λ edge. edge < length down.now) ins.now }
-    ensures value { result ≡ list_all (λ input. is_id_count (id_count input)) (map (spec.down_at down.now)
+    ensures value { result ≡ list_all (λ input. is_id_count (id_count input)) (map (spec.port_down down.now)
         ins.now) }
-    ensures each { IsTrue result → All (λ input. IsTrue (is_id_count (id_count (spec.down_at down.now
+    ensures each { IsTrue result → All (λ input. IsTrue (is_id_count (id_count (spec.port_down down.now
         input)))) ins.now }
 {
     for input in ins {
-        if !is_id_count(largest_end(down_at(down, *input))) {
+        if !is_id_count(largest_end(port_down(down, *input))) {
             return false;
         }
     }
     true
 }
 
-// The least power of two that isn't below the count.
-fn rounded(count: u32) -> u32
-    requires { count ≤ 1024 }
-    ensures value { result ≡ rounded count }
-    ensures small { result ≤ 1024 }
-{
-    count.next_power_of_two()
-}
-
+// The rounded number of ids of a port.
 fn rounded_count(port: &DownPort) -> u32
     requires { IsTrue (is_id_count (id_count port.now)) }
     ensures value { result ≡ rounded (id_count port.now) }
     ensures small { result ≤ 1024 }
 {
-    rounded(largest_end(port))
-}
-
-fn goes_first(own: u32, place: usize, other: u32, at: usize) -> bool
-    ensures { result ≡ goes_first own place other at }
-{
-    own < other || (own == other && at < place)
+    rounded_up(largest_end(port))
 }
 
 // Where the range of an input starts: behind all that go before it.
 fn range_start(own: u32, place: usize, ins: &[u32], down: &[DownPort]) -> u32
     requires edges { All (λ edge. edge < length down.now) ins.now }
     requires few { length ins.now ≤ 1024 }
-    requires counts { All (λ input. IsTrue (is_id_count (id_count (spec.down_at down.now input)))) ins.now }
-    ensures { result ≡ sum_before own place 0 (map rounded (map id_count (map (spec.down_at down.now)
+    requires counts { All (λ input. IsTrue (is_id_count (id_count (spec.port_down down.now input)))) ins.now }
+    ensures { result ≡ sum_before own place 0 (map rounded (map id_count (map (spec.port_down down.now)
         ins.now))) }
 {
     let mut start = 0;
     for (at, input) in ins.iter().enumerate() {
-        let other = rounded_count(down_at(down, *input));
+        let other = rounded_count(port_down(down, *input));
         if goes_first(own, place, other, at) {
             start += other;
         }
@@ -128,13 +115,13 @@ fn begin_shifted(masters: &[Master], by: u32, moved: &[Master]) -> bool
 fn has_inputs(masters: &[Master], ins: &[u32], down: &[DownPort]) -> bool
     requires edges { All (λ edge. edge < length down.now) ins.now }
     requires few { length ins.now ≤ 1024 }
-    requires counts { All (λ input. IsTrue (is_id_count (id_count (spec.down_at down.now input)))) ins.now }
-    ensures { result ≡ spec.same_ids (joined_masters (map (spec.down_at down.now) ins.now)
-        (input_ranges (map (spec.down_at down.now) ins.now))) masters.now }
+    requires counts { All (λ input. IsTrue (is_id_count (id_count (spec.port_down down.now input)))) ins.now }
+    ensures { result ≡ spec.same_ids (joined_masters (map (spec.port_down down.now) ins.now)
+        (input_ranges (map (spec.port_down down.now) ins.now))) masters.now }
 {
     let mut rest = masters;
     for (place, input) in ins.iter().enumerate() {
-        let port = down_at(down, *input);
+        let port = port_down(down, *input);
         let start = range_start(rounded_count(port), place, ins, down);
         let own = port.masters.as_slice();
         if !begin_shifted(own, start, rest) {
@@ -149,10 +136,10 @@ fn has_inputs(masters: &[Master], ins: &[u32], down: &[DownPort]) -> bool
 fn all_have_ids(masters: &[Master], outs: &[u32], down: &[DownPort]) -> bool
     requires { All (λ edge. edge < length down.now) outs.now }
     ensures { result ≡ list_all (λ output. spec.same_ids masters.now output.masters)
-        (map (spec.down_at down.now) outs.now) }
+        (map (spec.port_down down.now) outs.now) }
 {
     for output in outs {
-        if !same_ids(masters, down_at(down, *output).masters.as_slice()) {
+        if !same_ids(masters, port_down(down, *output).masters.as_slice()) {
             return false;
         }
     }
@@ -165,12 +152,12 @@ fn first_stands_for_all(first: u32, ins: &[u32], outs: &[u32], down: &[DownPort]
     requires outs { All (λ edge. edge < length down.now) outs.now }
     requires first { slice_get outs.now 0 ≡ Some first }
     requires few { length ins.now ≤ 1024 }
-    requires counts { All (λ input. IsTrue (is_id_count (id_count (spec.down_at down.now input)))) ins.now }
-    ensures { result ≡ list_all (λ output. spec.same_ids (joined_masters (map (spec.down_at down.now) ins.now)
-        (input_ranges (map (spec.down_at down.now) ins.now))) output.masters) (map (spec.down_at down.now)
+    requires counts { All (λ input. IsTrue (is_id_count (id_count (spec.port_down down.now input)))) ins.now }
+    ensures { result ≡ list_all (λ output. spec.same_ids (joined_masters (map (spec.port_down down.now) ins.now)
+        (input_ranges (map (spec.port_down down.now) ins.now))) output.masters) (map (spec.port_down down.now)
         outs.now) }
 {
-    let masters = down_at(down, first).masters.as_slice();
+    let masters = port_down(down, first).masters.as_slice();
     has_inputs(masters, ins, down) && all_have_ids(masters, outs, down)
 }
 
@@ -178,7 +165,7 @@ fn first_stands_for_all(first: u32, ins: &[u32], outs: &[u32], down: &[DownPort]
 pub fn outputs_fit(ins: &[u32], outs: &[u32], down: &[DownPort]) -> bool
     requires ins { All (λ edge. edge < length down.now) ins.now }
     requires outs { All (λ edge. edge < length down.now) outs.now }
-    ensures { result ≡ spec.outputs_fit (map (spec.down_at down.now) ins.now) (map (spec.down_at down.now)
+    ensures { result ≡ spec.outputs_fit (map (spec.port_down down.now) ins.now) (map (spec.port_down down.now)
         outs.now) }
 {
     if ins.len() > 1024 || !have_id_counts(ins, down) {

@@ -59,6 +59,7 @@ fn widened(fragments: &Sizes, sizes: &Sizes) -> Sizes
     sizes.meet(&up_to_piece(fragments))
 }
 
+// Operations behind the fragmenter: gets and puts are cut, atomics and intents pass whole.
 fn cut_ops(fragments: &Sizes, ops: &Ops) -> Ops
     requires { arguments.AreFragments fragments.now }
     ensures { result ≡ spec.cut_ops fragments.now.min ops.now }
@@ -71,6 +72,7 @@ fn cut_ops(fragments: &Sizes, ops: &Ops) -> Ops
     }
 }
 
+// Operations before the fragmenter: gets and puts are widened, atomics and intents stay.
 fn widened_ops(fragments: &Sizes, ops: &Ops) -> Ops
     requires { arguments.AreFragments fragments.now }
     ensures { result ≡ spec.widened_ops fragments.now ops.now }
@@ -83,6 +85,7 @@ fn widened_ops(fragments: &Sizes, ops: &Ops) -> Ops
     }
 }
 
+// The masters behind the fragmenter.
 fn cut_masters(alloc: Global, fragments: &Sizes, masters: &[Master]) -> Result<Masters, Memory>
     requires { arguments.AreFragments fragments.now }
     ensures { IfOk result (λ cut. cut ≡ map (spec.cut_master fragments.now.min) masters.now) }
@@ -99,6 +102,7 @@ fn cut_masters(alloc: Global, fragments: &Sizes, masters: &[Master]) -> Result<M
     Ok(cut)
 }
 
+// A slave as it shows before the fragmenter.
 fn widened_slave(alloc: Global, fragments: &Sizes, slave: &Slave) -> Result<Slave, Memory>
     requires { arguments.AreFragments fragments.now }
     ensures { IfOk result (λ wide. wide ≡ spec.widened_slave fragments.now slave.now) }
@@ -111,6 +115,7 @@ fn widened_slave(alloc: Global, fragments: &Sizes, slave: &Slave) -> Result<Slav
     })
 }
 
+// The slaves as they show before the fragmenter.
 fn widened_slaves(alloc: Global, fragments: &Sizes, slaves: &[Slave]) -> Result<Slaves, Memory>
     requires { arguments.AreFragments fragments.now }
     ensures { IfOk result (λ wide. wide ≡ map (spec.widened_slave fragments.now) slaves.now) }
@@ -122,6 +127,7 @@ fn widened_slaves(alloc: Global, fragments: &Sizes, slaves: &[Slave]) -> Result<
     Ok(wide)
 }
 
+// What goes down behind the fragmenter.
 fn cut_port(alloc: Global, fragments: &Sizes, port: &DownPort) -> Result<DownPort, Memory>
     requires { arguments.AreFragments fragments.now }
     ensures { IfOk result (λ cut. cut ≡ spec.cut_port fragments.now.min port.now) }
@@ -130,6 +136,7 @@ fn cut_port(alloc: Global, fragments: &Sizes, port: &DownPort) -> Result<DownPor
     Ok(DownPort { masters })
 }
 
+// What goes up before the fragmenter.
 fn widened_port(alloc: Global, fragments: &Sizes, port: &UpPort) -> Result<UpPort, Memory>
     requires { arguments.AreFragments fragments.now }
     ensures { IfOk result (λ wide. wide ≡ spec.widened_port fragments.now port.now) }

@@ -11,8 +11,6 @@ mod ports;
 mod shrinker;
 mod sides;
 mod standard;
-#[cfg(test)]
-mod tests;
 mod width;
 mod xbar;
 
@@ -27,6 +25,6 @@ pub use sides::{
     WidthRule, WidthSides, XbarRule, XbarSides, buffer_rule, fragmenter_rule, shrinker_rule,
     width_rule, xbar_rule,
 };
-pub use standard::{ask_standard_down, ask_standard_up, standard_rules};
+pub use standard::standard_rules;
 pub use width::{width_down, width_up};
 pub use xbar::{xbar_down, xbar_up};

@@ -20,6 +20,7 @@ pub fn shrink_argument(args: &Args) -> Option<u32>
     }
 }
 
+// Of each operation the least range that has the sizes of both.
 fn cover_ops(a: &Ops, b: &Ops) -> Ops
     ensures { result ≡ spec.cover_ops a.now b.now }
 {
@@ -33,6 +34,7 @@ fn cover_ops(a: &Ops, b: &Ops) -> Ops
     }
 }
 
+// The cover of some operations and of what further masters emit.
 fn cover_emits(ops: &Ops, masters: &[Master]) -> Ops
     ensures { result ≡ spec.cover_emits ops.now masters.now }
 {
@@ -43,6 +45,7 @@ fn cover_emits(ops: &Ops, masters: &[Master]) -> Ops
     cover
 }
 
+// One master in place of all: the first one's node and port, so many ids from 0 on, the cover of what all emit.
 fn shrunk_port(alloc: Global, ids: u32, masters: &[Master]) -> Result<DownPort, RuleFault>
     ensures { Answers (spec.shrunk_port ids masters.now) result }
 {

@@ -1,13 +1,13 @@
 ghost use Rattle.std.specs.Prelude.{◌≡◌, ◌++◌, [], ◌∷◌, map, IfOk, OnOk, IsTrue};
-ghost use Rattle.dip_rule.specs.Stated.{Answers, down_by, rule_of, stated_rule, up_by};
+ghost use Rattle.dip_rule.specs.Stated.{stated_rule};
 ghost use Rattle.dip_sets.specs.Names.{is_name};
-ghost use Rattle.tl_rules.specs.Standard.{kinds_by, sides, standard};
+ghost use Rattle.tl_rules.specs.Standard.{kinds_by, sides};
 
 use dip_lists::{Items, Memory};
-use dip_rule::{Rule, RuleEntries, RuleEntry, RuleFault, Rules, Stating};
+use dip_rule::{Rule, RuleEntries, RuleEntry, Rules, Stating};
 use dip_sets::Name;
 use std::alloc::Global;
-use tl_params::{Args, DownPort, Template, UpPort};
+use tl_params::Template;
 
 // The name of a kind.
 fn kind_name(alloc: Global, text: &str) -> Result<Name, Memory>
@@ -20,6 +20,7 @@ fn kind_name(alloc: Global, text: &str) -> Result<Name, Memory>
     }
 }
 
+// Adds the rule of a kind behind those that are there.
 fn add_rule(
     alloc: Global,
     entries: &mut RuleEntries,
@@ -52,7 +53,8 @@ pub fn standard_rules(
     shrinker: Box<dyn Rule>,
     xbar: Box<dyn Rule>,
 ) -> Result<Rules, Memory>
-    ensures { IfOk result (λ rules. ⟦<Rules as Stating>⟧.stated rules ≡ kinds_by (sides (says_down buffer) (says_up buffer))
+    ensures { IfOk result (λ rules. ⟦<Rules as Stating>⟧.stated rules ≡
+        kinds_by (sides (says_down buffer) (says_up buffer))
         (sides (says_down width) (says_up width)) (sides (says_down fragmenter) (says_up fragmenter))
         (sides (says_down shrinker) (says_up shrinker)) (sides (says_down xbar) (says_up xbar))) }
 {
@@ -90,30 +92,4 @@ macro_rules! boxed_standard_rules {
         let xbar: Box<dyn $crate::Rule> = $crate::xbar_rule(alloc)?;
         $crate::standard_rules(alloc, buffer, width, fragmenter, shrinker, xbar)?
     }};
-}
-
-/// What the standard rule of a kind answers down; a refusal with 0 where the kind is no standard one.
-pub fn ask_standard_down(
-    alloc: Global,
-    kind: &Name,
-    args: &Args,
-    ins: &[DownPort],
-) -> Result<DownPort, RuleFault>
-    ensures { Answers (down_by (rule_of standard kind.now) args.now ins.now) result }
-{
-    let rules = boxed_standard_rules!(alloc);
-    rules.ask_down(kind, args, ins)
-}
-
-/// What the standard rule of a kind answers up; a refusal with 0 where the kind is no standard one.
-pub fn ask_standard_up(
-    alloc: Global,
-    kind: &Name,
-    args: &Args,
-    outs: &[UpPort],
-) -> Result<UpPort, RuleFault>
-    ensures { Answers (up_by (rule_of standard kind.now) args.now outs.now) result }
-{
-    let rules = boxed_standard_rules!(alloc);
-    rules.ask_up(kind, args, outs)
 }

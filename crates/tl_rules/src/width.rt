@@ -18,6 +18,7 @@ fn width_argument(args: &Args) -> Option<u32>
     }
 }
 
+// A copy of a port behind a bus of this width.
 fn with_beat(alloc: Global, width: u32, port: &UpPort) -> Result<UpPort, Memory>
     ensures { IfOk result (λ wide. wide ≡ spec.with_beat width port.now) }
 {

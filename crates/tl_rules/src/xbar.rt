@@ -16,6 +16,7 @@ pub fn is_id_count(count: u32) -> bool
     1 <= count && count <= 1024
 }
 
+// Whether each master has an id.
 fn have_ids(masters: &[Master]) -> bool
     ensures { result ≡ list_all spec.has_ids masters.now }
 {
@@ -24,6 +25,7 @@ fn have_ids(masters: &[Master]) -> bool
         .all(|master| master.ids.start < master.ids.end)
 }
 
+// Whether a crossbar can use an input.
 fn is_usable(port: &DownPort) -> bool
     ensures { result ≡ spec.is_usable port.now }
 {
@@ -42,6 +44,7 @@ fn are_usable(ins: &[DownPort]) -> bool
     1 <= ins.len() && ins.len() <= 1024 && all_are_usable(ins)
 }
 
+// How many ids each input needs.
 fn id_counts(alloc: Global, ins: &[DownPort]) -> Result<Items<u32>, Memory>
     ensures { IfOk result (λ counts. counts ≡ map spec.id_count ins.now) }
 {
@@ -52,6 +55,7 @@ fn id_counts(alloc: Global, ins: &[DownPort]) -> Result<Items<u32>, Memory>
     Ok(counts)
 }
 
+// The range of ids behind the crossbar of each input.
 fn input_ranges(alloc: Global, ins: &[DownPort]) -> Result<IdRanges, Memory>
     requires { IsTrue (spec.are_usable ins.now) }
     ensures value { IfOk result (λ ranges. ranges ≡ spec.input_ranges ins.now) }
@@ -62,6 +66,7 @@ fn input_ranges(alloc: Global, ins: &[DownPort]) -> Result<IdRanges, Memory>
     assign_ranges(alloc, counts.as_slice())
 }
 
+// A master with its ids moved up.
 fn shifted_master(master: &Master, by: u32) -> Master
     requires start { master.now.ids.start + by < 2 ^ 32 }
     requires end { master.now.ids.end + by < 2 ^ 32 }
@@ -87,6 +92,7 @@ fn add_shifted(all: &mut Masters, port: &DownPort, by: u32) -> Result<(), Memory
     Ok(())
 }
 
+// The masters of all inputs in order, moved to the ranges of their inputs.
 fn joined_masters(alloc: Global, ins: &[DownPort], ranges: &[IdRange]) -> Result<Masters, Memory>
     requires usable { IsTrue (list_all spec.is_usable ins.now) }
     requires long { length ranges.now ≡ length ins.now }
@@ -117,6 +123,7 @@ pub fn xbar_down(alloc: Global, args: &Args, ins: &[DownPort]) -> Result<DownPor
     Ok(DownPort { masters })
 }
 
+// Adds copies of slaves.
 fn add_slaves(alloc: Global, all: &mut Slaves, slaves: &[Slave]) -> Result<(), Memory>
     ensures { OnOk result (all.new ≡ all.old ++ slaves.now) }
 {
@@ -126,6 +133,7 @@ fn add_slaves(alloc: Global, all: &mut Slaves, slaves: &[Slave]) -> Result<(), M
     Ok(())
 }
 
+// Copies of the slaves of all outputs in order.
 fn joined_slaves(alloc: Global, outs: &[UpPort]) -> Result<Slaves, Memory>
     ensures { IfOk result (λ slaves. slaves ≡ flat_map (λ port. port.slaves) outs.now) }
 {

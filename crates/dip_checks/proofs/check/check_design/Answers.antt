@@ -1,4 +1,4 @@
-use Rattle.dip_checks.proofs.Owners.{one_owner_each}
+use Rattle.tl_params.proofs.OneOwner.{one_owner_each}
 use Rattle.dip_checks.proofs.check.check_design.Goals as goal
 
 pub returns-clause-owners : goal.returns-clause-owners

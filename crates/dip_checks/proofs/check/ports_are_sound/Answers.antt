@@ -1,7 +1,7 @@
 use Rattle.std.proofs.Common.{List, subst}
 use Rattle.std.specs.Prelude.{All}
 use Rattle.tl_params.specs.declared.ports.UpPort.{UpPort}
-use Rattle.dip_checks.specs.Apart.{HasDisjointSets}
+use Rattle.tl_params.specs.Apart.{HasDisjointSets}
 use Rattle.dip_checks.proofs.Disjointness.{on_ok}
 use Rattle.dip_checks.proofs.check.ports_are_sound.Goals as goal
 

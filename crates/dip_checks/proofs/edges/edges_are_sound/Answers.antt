@@ -1,4 +1,4 @@
-use Rattle.dip_checks.specs.Apart.{HasDisjointSets}
+use Rattle.tl_params.specs.Apart.{HasDisjointSets}
 use Rattle.std.specs.Prelude.{All}
 use Rattle.dip_checks.proofs.Disjointness.{edges_apart, on_ok}
 use Rattle.dip_checks.proofs.edges.edges_are_sound.Goals as goal

@@ -1,5 +1,13 @@
 use Rattle.dip_graph.proofs.Behind.{each_stands_behind}
+use Rattle.dip_graph.proofs.Bound.{each_waits}
+use Rattle.dip_graph.proofs.Complete.{left_out_waits}
 use Rattle.dip_graph.proofs.laws.order_law.Goals as goal
 
-pub returns : goal.returns
-returns c = each_stands_behind
+pub returns-clause-stands : goal.returns-clause-stands
+returns-clause-stands c = each_stands_behind
+
+pub returns-clause-waits : goal.returns-clause-waits
+returns-clause-waits c = each_waits
+
+pub returns-clause-left : goal.returns-clause-left
+returns-clause-left c = left_out_waits

@@ -6,8 +6,8 @@ use Rattle.tl_rules.proofs.fit_xbar.has_inputs.Goals as goal
 
 pub returns-then-not-begin_shifted : goal.returns-then-not-begin_shifted
 returns-then-not-begin_shifted c =
-    let own = c.as_slice-own.ensures ∙ ap (λ port. port.masters) c.down_at-port.ensures in
-    let count = c.rounded_count.ensures.value ∙ ap (λ port. rounded (id_count port)) c.down_at-port.ensures in
+    let own = c.as_slice-own.ensures ∙ ap (λ port. port.masters) c.port_down-port.ensures in
+    let count = c.rounded_count.ensures.value ∙ ap (λ port. rounded (id_count port)) c.port_down-port.ensures in
     let all = rounded_of c.args.down.now c.args.ins.now in
     let start = c.range_start-start.ensures ∙ ap (λ n. sum_before n c.loop-place.place 0 all) count in
     sym (input_fails c.args.down.now all c.args.ins.now c.loop-place.place c.range_start-start.result c.as_slice-own.result.now c.loop-place.rest.now
@@ -16,8 +16,8 @@ returns-then-not-begin_shifted c =
 
 pub loop-place-preserved : goal.loop-place-preserved
 loop-place-preserved c =
-    let own = c.as_slice-own.ensures ∙ ap (λ port. port.masters) c.down_at-port.ensures in
-    let count = c.rounded_count.ensures.value ∙ ap (λ port. rounded (id_count port)) c.down_at-port.ensures in
+    let own = c.as_slice-own.ensures ∙ ap (λ port. port.masters) c.port_down-port.ensures in
+    let count = c.rounded_count.ensures.value ∙ ap (λ port. rounded (id_count port)) c.port_down-port.ensures in
     let all = rounded_of c.args.down.now c.args.ins.now in
     let start = c.range_start-start.ensures ∙ ap (λ n. sum_before n c.loop-place.place 0 all) count in
     rw c.behind-rest.ensures

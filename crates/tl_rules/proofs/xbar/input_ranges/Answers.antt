@@ -1,6 +1,7 @@
 use Rattle.std.proofs.Common.{◌≡◌, ◌∙◌, map}
 use Rattle.tl_rules.specs.Crossbars.{id_count}
-use Rattle.tl_rules.proofs.Crossing.{counts_small, input_length, input_low, if_ok_same, usable_parts}
+use Rattle.dip_sets.proofs.Assigned.{if_ok_same}
+use Rattle.tl_rules.proofs.Crossing.{counts_small, input_length, input_low, usable_parts}
 use Rattle.tl_rules.proofs.xbar.input_ranges.Goals as goal
 
 pub assign_ranges-requires-clause-small : goal.assign_ranges-requires-clause-small

@@ -1,0 +1,19 @@
+-- Ports on which each address has at most one set, and so at most one owner.
+use Rattle.std.specs.Prelude.{ℕ, ◌≡◌, AllPairs}
+use Rattle.dip_sets.specs.Sets.{Disjoint}
+use Rattle.tl_params.specs.declared.ports.UpPort.{UpPort}
+use Rattle.tl_params.specs.OwnerLaw.{Owns}
+use Rattle.tl_params.specs.Owners.{sets_of}
+
+-- no address is in two sets of the port
+abbrev pub HasDisjointSets : UpPort → Type 0
+HasDisjointSets up = AllPairs Disjoint (sets_of up.slaves)
+
+-- each address has at most one owner: two places with it are the same place
+abbrev pub HasOneOwnerEach : UpPort → Type 0
+HasOneOwnerEach up =
+    (address place other : ℕ) → Owns up.slaves place address → Owns up.slaves other address → place ≡ other
+
+-- where no address is in two sets of a port, each address has at most one owner
+abbrev pub OneOwnerLaw : Type 0
+OneOwnerLaw = (up : UpPort) → HasDisjointSets up → HasOneOwnerEach up
