@@ -5,7 +5,7 @@ ghost use Rattle.tl_rules.specs.Crossbars.{id_count, is_id_count, input_ranges, 
 ghost use Rattle.tl_params.specs.Carried as carried;
 ghost use Rattle.tl_rules.specs.Fits as spec;
 
-use crate::fit::{begin_with, port_down, same_ids, port_up};
+use crate::fit::{begin_with, port_down, port_up, same_ids};
 use crate::ports::behind;
 use crate::xbar::is_id_count;
 use dip_sets::{goes_first, rounded_up};
