@@ -1,23 +1,22 @@
 -- What passed checks of edges say.
-use Rattle.std.proofs.Common.{◌≡◌, ℕ, zero, suc, ◌+◌, ◌<◌, ◌≤◌, ◌==◌, List, [], ◌∷◌, length, Bool, true, false, ◌||◌, cond, nat_lt, nat_le, max, min, None, refl, arith}
+use Rattle.std.proofs.Common.{◌≡◌, ℕ, ◌+◌, ◌<◌, ◌≤◌, ◌==◌, List, [], ◌∷◌, length, Bool, false, ◌||◌, nat_lt, nat_le, max, min, None, arith}
 use Rattle.std.specs.Prelude.{All, AllPairs}
 use Rattle.std.specs.List.{list_any}
-use Rattle.std.proofs.lemmas.Bool.{leb-false}
 use Rattle.std.proofs.lemmas.Bool.Decides.{nat_tests}
 use Rattle.std.proofs.lemmas.List.Elements.{All-cons}
 use Rattle.std.proofs.lemmas.List.Kept.{AllPairs-cons}
 use Rattle.dip_lists.specs.First.{first, places}
 use Rattle.dip_lists.proofs.Tests.{neither}
 use Rattle.dip_sets.specs.declared.ids.IdRange.{IdRange}
-use Rattle.dip_sets.specs.Ids.{HasId, DisjointIds, overlap_ids}
+use Rattle.dip_sets.specs.Ids.{DisjointIds, overlap_ids}
 use Rattle.dip_sets.specs.Sets.{Pattern, alignment}
 use Rattle.tl_params.specs.Operations.{largest}
 use Rattle.tl_params.specs.declared.ports.Master.{Master}
 use Rattle.tl_params.specs.declared.ports.Slave.{Slave}
 use Rattle.tl_params.specs.declared.ports.DownPort.{DownPort}
 use Rattle.tl_params.specs.declared.ports.UpPort.{UpPort}
-use Rattle.dip_checks.specs.Checks.{has_wrong_ids, share_ids, masters_are_wrong, wrong_edges, slave_is_misaligned, edge_is_misaligned, misaligned_edges}
-use Rattle.dip_checks.specs.Laws.{HasOwnIds, IsAligned, PortsLaw}
+use Rattle.dip_checks.specs.Checks.{has_wrong_ids, share_ids, masters_are_wrong, slave_is_misaligned, edge_is_misaligned}
+use Rattle.dip_checks.specs.Laws.{HasOwnIds, HasAlignedSets, PortsLaw}
 use Rattle.dip_checks.proofs.Disjointness.{passes_here}
 
 -- what fails nowhere in a list holds of each element
@@ -67,11 +66,11 @@ aligned_slave : (slave : Slave) → slave_is_misaligned slave ≡ false → All 
 aligned_slave slave h =
     each (λ s. nat_lt (alignment s) (largest slave.supports)) (λ s. largest slave.supports ≤ alignment s) (aligned_set (largest slave.supports)) slave.addresses h
 
-aligned_edge : (up : UpPort) → edge_is_misaligned up ≡ false → IsAligned up
+aligned_edge : (up : UpPort) → edge_is_misaligned up ≡ false → HasAlignedSets up
 aligned_edge up h = each slave_is_misaligned (λ (slave : Slave). All (λ s. largest slave.supports ≤ alignment s) slave.addresses) aligned_slave up.slaves h
 
 pub ports : PortsLaw
 ports = record {
   ids = λ downs h. at_each (λ (down : DownPort). masters_are_wrong down.masters) HasOwnIds own_ids 0 downs h;
-  aligned = λ ups h. at_each edge_is_misaligned IsAligned aligned_edge 0 ups h;
+  aligned = λ ups h. at_each edge_is_misaligned HasAlignedSets aligned_edge 0 ups h;
 }

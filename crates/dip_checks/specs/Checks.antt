@@ -77,8 +77,8 @@ graph_checks rules design =
     ∷ check 7 (left_out design)
     ∷ star_checks rules design
 
--- ---- checks 11 and 12: the node whose rule is the first to refuse, down in canonical order and then up in the reversed
--- order
+-- ---- checks 11 and 12: the node whose rule is the first to refuse, down in canonical order and then up in the
+-- reversed order
 
 -- the node of a pass that refused, of its refused edge
 abbrev pub refusing : {P : Type 0} → (Edge → ℕ) → Result (List P) Refusal → List ℕ

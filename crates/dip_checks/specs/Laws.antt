@@ -31,10 +31,11 @@ pub record HasOwnIds (down : DownPort) : Type 0 where
   pub apart : AllPairs (λ (m other : Master). DisjointIds m.ids other.ids) down.masters
 
 -- each set of the edge is aligned to its slave's largest transfer
-abbrev pub IsAligned : UpPort → Type 0
-IsAligned up = All (λ (slave : Slave). All (λ s. largest slave.supports ≤ alignment s) slave.addresses) up.slaves
+abbrev pub HasAlignedSets : UpPort → Type 0
+HasAlignedSets up =
+    All (λ (slave : Slave). All (λ s. largest slave.supports ≤ alignment s) slave.addresses) up.slaves
 
 -- what the checks 13 and 15 say where they pass
 pub record PortsLaw : Type 0 where
   pub ids : (downs : List DownPort) → first (wrong_edges downs) ≡ None → All HasOwnIds downs
-  pub aligned : (ups : List UpPort) → first (misaligned_edges ups) ≡ None → All IsAligned ups
+  pub aligned : (ups : List UpPort) → first (misaligned_edges ups) ≡ None → All HasAlignedSets ups

@@ -63,8 +63,9 @@ fn solved(alloc: Global, rules: &Rules, design: &Design, edges: &[Edge]) -> Resu
 
 /// The edges and the only solution of a design, by these rules.
 ///
-/// `Fault::Check` names the first of the checks 5 to 18 that fails, with the number of the bind, the node or the
-/// edge at which it does, or how many edges there are, or the weight. After `Fault::Memory` nothing is known.
+/// `Fault::Check` names the first of the checks 5 to 18 that fails, with the number of the bind, the node
+/// or the edge at which it does, or how many edges there are, or the weight. After `Fault::Memory` nothing
+/// is known.
 #[tactic(auto, using(crate::proofs::Solved::only_solution), unfolding(crate::specs::Checks::design_checks))]
 pub fn check_design(alloc: Global, design: &Design, rules: &Rules) -> Result<Accepted, Fault>
     requires nodes { length design.now.nodes ≤ 256 }

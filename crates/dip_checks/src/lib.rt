@@ -15,3 +15,4 @@ mod weights;
 pub use accepted::Accepted;
 pub use check::check_design;
 pub use laws::{check_order_law, ports_law};
+pub use weights::weight;

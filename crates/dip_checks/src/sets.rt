@@ -48,8 +48,8 @@ fn stand_in_row(sets: &[AddressSet]) -> bool
 
 /// Whether two of some sets have a common address.
 ///
-/// Sorted by their bases, sets without holes that have none stand in a row. Where they don't, all are compared
-/// pair by pair.
+/// Sorted by their bases, sets without holes that have none stand in a row. Where they don't, all are
+/// compared pair by pair.
 pub fn some_overlap(sets: Items<AddressSet>) -> bool
     ensures { result ≡ spec.has_overlap sets }
 {
