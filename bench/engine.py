@@ -13,13 +13,13 @@ import sys
 from pathlib import Path
 
 TOP = Path(__file__).resolve().parent.parent
-PROGRAM = TOP / "crates/soc_bench/out/soc_bench"
+PROGRAM = TOP / "crates/bench_netlists/out/bench_netlists"
 CYCLES = 10_000
 
 
 def build():
     """Proves and builds the program; the toolchain does nothing where it is built already."""
-    subprocess.run(["rt", "run", "--", "engine", "100", "20"], cwd=TOP / "crates/soc_bench", stdout=subprocess.DEVNULL, stderr=subprocess.DEVNULL, check=True)
+    subprocess.run(["rt", "run", "--", "engine", "100", "20"], cwd=TOP / "crates/bench_netlists", stdout=subprocess.DEVNULL, stderr=subprocess.DEVNULL, check=True)
 
 
 def seconds(cells, cycles, runs):

@@ -6,6 +6,7 @@ use Rattle.std.proofs.lemmas.Bool.{cases_eq, eq-eqb, ne_eqb}
 use Rattle.std.proofs.lemmas.List.{take_all}
 use Rattle.std.proofs.lemmas.Option.{slice_get_within, slice_get-map, slice_get_read, get_or_from_slice_get}
 use Rattle.std.proofs.Math.Seq.{map-set_same}
+use Rattle.dip_lists.proofs.Tests.{both}
 use Rattle.net_build.specs.Built.{numbers_where}
 use Rattle.net_cells.specs.Rules.{HasWidth}
 use Rattle.net_cells.specs.Values.{op_value}
@@ -15,7 +16,7 @@ use Rattle.net_build.specs.declared.types.Made.{Made}
 use Rattle.net_build.specs.declared.types.Wire.{Wire}
 use Rattle.net_build.specs.Built.{Built, items, widths_of, wire_widths, inputs, undriven, is_undriven, is_register, port_of, IsWire, IsRegister}
 use Rattle.net_build.specs.Values.{Solves, Later, Drives}
-use Rattle.net_build.specs.Sound.{IsSound, HasNext, IsLowInReset}
+use Rattle.net_build.specs.Sound.{IsWellBuilt, HasNext, IsLowInReset}
 
 pub get_set : {A : Type 0} (xs : List A) (k : ℕ) (x : A) (n : ℕ) (y : A) → slice_get (set xs k x) n ≡ Some y → ((n ≡ k) × (x ≡ y)) ⊎ (slice_get xs n ≡ Some y)
 get_set [] k x n y e = inr e
@@ -89,10 +90,6 @@ place_of test from (x ∷ xs) n k h e = elim (place_cases (test x) from n (numbe
       record { place = suc p.place; at = omega (arith, p.at); item = p.item; is = p.is; passes = p.passes }
 ]
 
-both_true : (a b : Bool) → (a && b) ≡ true → b ≡ true
-both_true true b e = e
-both_true false b e = absurd cc
-
 is_nothing : (o : Option ℕ) → is_none o ≡ true → o ≡ None
 is_nothing None e = refl
 is_nothing (Some x) e = absurd cc
@@ -103,7 +100,7 @@ free b r m c e =
     let p = place_of is_undriven 0 b.made r c.0 c.1 c.2 in
     let f : slice_get b.made r ≡ Some p.item = ap (slice_get b.made) (let q : r ≡ p.place = omega (arith, p.at) in q) ∙ p.is in
     let g : m ≡ p.item = cc in
-    rw g (is_nothing p.item.next (both_true (is_register p.item.item.kind) (is_none p.item.next) p.passes))
+    rw g (is_nothing p.item.next (both (is_register p.item.item.kind) (is_none p.item.next) p.passes).1)
 
 pub exists : (b : Built) (r : ℕ) → Contains (undriven b) r → r < length b.made
 exists b r c =
@@ -153,7 +150,7 @@ later_driven b r m d e f =
       outputs = take_all (length b.outputs) b.outputs (omega arith);
     }
 
-pub driven_sound : (b : Built) (r : ℕ) (m : Made) (d width : ℕ) → IsSound b → slice_get b.made r ≡ Some m → m.item.width ≡ width → m.item.kind ≡ Register → HasWidth (wire_widths b) d width → IsLowInReset b d → IsSound (driven b r m d)
+pub driven_sound : (b : Built) (r : ℕ) (m : Made) (d width : ℕ) → IsWellBuilt b → slice_get b.made r ≡ Some m → m.item.width ≡ width → m.item.kind ≡ Register → HasWidth (wire_widths b) d width → IsLowInReset b d → IsWellBuilt (driven b r m d)
 driven_sound b r m d width s e w kind h l =
     let i = items_driven b r m d e in
     let x : Made = record { item = m.item; next = Some d } in
@@ -217,7 +214,7 @@ ready b now register before m same is waits w e =
     let f : slice_get b.made register.number ≡ Some m = slice_get_read b.made (length b.made) register.number m refl (exists b register.number c) e in
     record { here = f; free = free b register.number m c f; width = ap (λ (i : Item). i.width) (register_is b register m h f) ∙ sym w; kind = ap (λ (i : Item). i.kind) (register_is b register m h f) }
 
-pub put_sound : (b : Built) (register before : Wire) (m : Made) → IsSound b → IsReady b register before m → IsWire b before → IsLowInReset b before.number → IsSound (driven b register.number m before.number)
+pub put_sound : (b : Built) (register before : Wire) (m : Made) → IsWellBuilt b → IsReady b register before m → IsWire b before → IsLowInReset b before.number → IsWellBuilt (driven b register.number m before.number)
 put_sound b register before m s r w l = driven_sound b register.number m before.number before.width s r.here r.width r.kind w.has l
 
 pub put_drives : (b : Built) (register before : Wire) (m : Made) → IsReady b register before m → Drives b (driven b register.number m before.number) register.number

@@ -15,7 +15,7 @@ use Rattle.net_cells.specs.declared.netlist.Port.{Port}
 use Rattle.net_cells.specs.declared.netlist.Reg.{Reg}
 use Rattle.net_cells.specs.declared.netlist.Netlist.{Netlist}
 use Rattle.net_cells.specs.Rules.{HasWidth, IsCell, IsNamed, IsNet, IsWellFormed, IsWidth, sources, widths, width_at}
-use Rattle.net_cells.specs.Values.{IsCycle, op_value}
+use Rattle.net_cells.specs.Values.{AreValues, op_value}
 use Rattle.net_cells.specs.Loops.{HasNoLoop, IsPath, Reads, operands}
 use Rattle.net_cells.proofs.Cycles.{many}
 use Rattle.net_cells.proofs.Nets.{sized}
@@ -26,8 +26,8 @@ use Rattle.net_build.specs.declared.types.Item.{Item}
 use Rattle.net_build.specs.declared.types.Made.{Made}
 use Rattle.net_build.specs.Built.{Built, inputs, is_register, is_undriven, items, names, port_of, port_of_kind, undriven, wire_widths}
 use Rattle.net_build.specs.Values.{Solves}
-use Rattle.net_build.specs.Sound.{Differ, IsSound}
-use Rattle.net_build.specs.Numbering.{AreNets, Resets, Carries, netlist_by, at_wires, cell_of, cell_of_kind, counts_of, finished, is_gate, is_input, net_among, net_at, net_of, next_of, out_of, reg_of, reg_of_kind, renamed}
+use Rattle.net_build.specs.Sound.{Differ, IsWellBuilt}
+use Rattle.net_build.specs.Numbering.{AreNets, Resets, KeepsValues, netlist_by, at_wires, cell_of, cell_of_kind, wire_counts, finished, is_gate, is_input, net_among, net_at, net_of, next_of, out_of, reg_of, reg_of_kind, renamed}
 use Rattle.net_build.proofs.Cells.{cell_whole}
 use Rattle.net_build.proofs.Lists.{all_weaker}
 use Rattle.net_build.proofs.Places.{all_picked, get_behind, get_mapped, none_passes, picked, placed, count_cons}
@@ -92,7 +92,7 @@ pub many_nets : (b : Built) → length (widths (finished b)) ≡ length b.made
 many_nets b = omega (arith, many (finished b), many_sources b, many_cells (net_of b.made) b.made, all_kinds b.made)
 
 -- the rule of a gate among all wires
-gate_rule : (b : Built) → IsSound b → (w : ℕ) (m : Made) (op : CellOp) → slice_get b.made w ≡ Some m → m.item.kind ≡ Gate op → IsCell (take w (wire_widths b)) m.item.width op
+gate_rule : (b : Built) → IsWellBuilt b → (w : ℕ) (m : Made) (op : CellOp) → slice_get b.made w ≡ Some m → m.item.kind ≡ Gate op → IsCell (take w (wire_widths b)) m.item.width op
 gate_rule b s w m op e f = s.gates w m.item op (get_mapped (λ (m : Made). m.item) b.made w m e) f
 
 is_driven : (m : Made) → m.item.kind ≡ Register → is_undriven m ≡ false → is_none m.next ≡ false
@@ -106,7 +106,7 @@ driven_by : (next : Option ℕ) → is_none next ≡ false → DrivenBy next
 driven_by None e = absurd cc
 driven_by (Some d) e = record { wire = d; is = refl }
 
-reg_rule : (b : Built) → IsSound b → undriven b ≡ [] → (w : ℕ) (m : Made) (y : Reg) → slice_get b.made w ≡ Some m → reg_of (net_of b.made) m ≡ Some y → HasWidth (widths (finished b)) y.next y.width
+reg_rule : (b : Built) → IsWellBuilt b → undriven b ≡ [] → (w : ℕ) (m : Made) (y : Reg) → slice_get b.made w ≡ Some m → reg_of (net_of b.made) m ≡ Some y → HasWidth (widths (finished b)) y.next y.width
 reg_rule b s u w m y e f =
     let g = reg_gives (net_of b.made) m.item.width m.next m.item.kind y f in
     let d = driven_by m.next (is_driven m g.kind (none_passes is_undriven 0 b.made u w m e)) in
@@ -114,19 +114,19 @@ reg_rule b s u w m y e f =
     subst (λ (y : Reg). HasWidth (widths (finished b)) y.next y.width) (sym g.is)
     (subst (λ n. HasWidth (widths (finished b)) n m.item.width) (sym (ap (next_of (net_of b.made)) d.is)) h)
 
-cell_rule : (b : Built) → IsSound b → (w : ℕ) (m : Made) (y : Cell) → slice_get b.made w ≡ Some m → cell_of (net_of b.made) m ≡ Some y → IsCell (widths (finished b)) y.width y.op
+cell_rule : (b : Built) → IsWellBuilt b → (w : ℕ) (m : Made) (y : Cell) → slice_get b.made w ≡ Some m → cell_of (net_of b.made) m ≡ Some y → IsCell (widths (finished b)) y.width y.op
 cell_rule b s w m y e f =
     let g = cell_gives (net_of b.made) m.item.width m.item.kind y f in
     let h = rule_renamed (wire_widths b) (widths (finished b)) (net_of b.made) (keeps_widths b) m.item.width g.op (cell_whole (wire_widths b) w m.item.width g.op (gate_rule b s w m g.op e g.kind)) in
     subst (λ (y : Cell). IsCell (widths (finished b)) y.width y.op) (sym g.is) h
 
-wire_sized : (b : Built) → IsSound b → (w : ℕ) (m : Made) → slice_get b.made w ≡ Some m → IsWidth m.item.width
+wire_sized : (b : Built) → IsWellBuilt b → (w : ℕ) (m : Made) → slice_get b.made w ≡ Some m → IsWidth m.item.width
 wire_sized b s w m e = at_place IsWidth (wire_widths b) s.sized w m.item.width (get_mapped (λ (i : Item). i.width) (items b) w m.item (get_mapped (λ (m : Made). m.item) b.made w m e))
 
-item_sized : (b : Built) → IsSound b → (w : ℕ) (i : Item) → slice_get (items b) w ≡ Some i → IsWidth i.width
+item_sized : (b : Built) → IsWellBuilt b → (w : ℕ) (i : Item) → slice_get (items b) w ≡ Some i → IsWidth i.width
 item_sized b s w i e = at_place IsWidth (wire_widths b) s.sized w i.width (get_mapped (λ (i : Item). i.width) (items b) w i e)
 
-all_sized : (b : Built) → IsSound b → All IsWidth (widths (finished b))
+all_sized : (b : Built) → IsWellBuilt b → All IsWidth (widths (finished b))
 all_sized b s =
     let r = net_of b.made in
     sized (finished b)
@@ -134,7 +134,7 @@ all_sized b s =
     (all_picked (reg_of r) (λ (m : Made). is_register m.item.kind) (λ (y : Reg). IsWidth y.width) (λ m. reg_test r m.item.width m.next m.item.kind) b.made (λ w m y e f. subst (λ (y : Reg). IsWidth y.width) (sym (reg_gives r m.item.width m.next m.item.kind y f).is) (wire_sized b s w m e)))
     (all_picked (cell_of r) (λ (m : Made). is_gate m.item.kind) (λ (y : Cell). IsWidth y.width) (λ m. gate_test r m.item.width m.item.kind) b.made (λ w m y e f. subst (λ (y : Cell). IsWidth y.width) (sym (cell_gives r m.item.width m.item.kind y f).is) (wire_sized b s w m e)))
 
-pub well : (b : Built) → IsSound b → undriven b ≡ [] → length b.made < 2 ^ 64 → IsWellFormed (finished b)
+pub well : (b : Built) → IsWellBuilt b → undriven b ≡ [] → length b.made < 2 ^ 64 → IsWellFormed (finished b)
 well b s u few =
     let r = net_of b.made in
     record {
@@ -164,7 +164,7 @@ wire_at b w h = elim ((slice_get_cases b.made w).1) [
 ]
 
 -- a cell reads nets below its own
-reads_below : (b : Built) → IsSound b → (net other : ℕ) → Reads (finished b) net other → other < net
+reads_below : (b : Built) → IsWellBuilt b → (net other : ℕ) → Reads (finished b) net other → other < net
 reads_below b s net other r =
     let ms = b.made in
     let q = picked (cell_of (net_of ms)) (λ (m : Made). is_gate m.item.kind) (λ m. gate_test (net_of ms) m.item.width m.item.kind) ms r.place r.cell r.is in
@@ -187,21 +187,21 @@ path_below n h net (x ∷ xs) last p =
     let c : last < x = path_below n h x xs last p.1 in
     omega arith
 
-pub no_loop : (b : Built) → IsSound b → HasNoLoop (finished b)
+pub no_loop : (b : Built) → IsWellBuilt b → HasNoLoop (finished b)
 no_loop b s net d =
     let a : net < net = path_below (finished b) (reads_below b s) net d.0 net d.1 in
     omega arith
 
 -- the net of a register, and of a gate
 net_of_register : (b : Built) (w : ℕ) (m : Made) → slice_get b.made w ≡ Some m → m.item.kind ≡ Register → net_of b.made w ≡ inputs_in b.made + regs_in (take w b.made)
-net_of_register b w m e f = ap (net_at b.made w) e ∙ ap (net_among (counts_of b.made) (counts_of (take w b.made))) f
+net_of_register b w m e f = ap (net_at b.made w) e ∙ ap (net_among (wire_counts b.made) (wire_counts (take w b.made))) f
 
 net_of_gate : (b : Built) (w : ℕ) (m : Made) (op : CellOp) → slice_get b.made w ≡ Some m → m.item.kind ≡ Gate op → net_of b.made w ≡ sources (finished b) + gates_in (take w b.made)
 net_of_gate b w m op e f =
-    let g : net_of b.made w ≡ inputs_in b.made + regs_in b.made + gates_in (take w b.made) = ap (net_at b.made w) e ∙ ap (net_among (counts_of b.made) (counts_of (take w b.made))) f in
+    let g : net_of b.made w ≡ inputs_in b.made + regs_in b.made + gates_in (take w b.made) = ap (net_at b.made w) e ∙ ap (net_among (wire_counts b.made) (wire_counts (take w b.made))) f in
     g ∙ omega (arith, many_sources b)
 
-gate_value : (b : Built) → IsSound b → (given : List ℕ) (v : ℕ → ℕ) → IsCycle (finished b) given v → (w : ℕ) (m : Made) (op : CellOp) → slice_get b.made w ≡ Some m → m.item.kind ≡ Gate op → v (net_of b.made w) ≡ op_value (wire_widths b) m.item.width op (at_wires b v)
+gate_value : (b : Built) → IsWellBuilt b → (given : List ℕ) (v : ℕ → ℕ) → AreValues (finished b) given v → (w : ℕ) (m : Made) (op : CellOp) → slice_get b.made w ≡ Some m → m.item.kind ≡ Gate op → v (net_of b.made w) ≡ op_value (wire_widths b) m.item.width op (at_wires b v)
 gate_value b s given v c w m op e f =
     let r = net_of b.made in
     let cell : Cell = record { width = m.item.width; op = renamed r op } in
@@ -209,7 +209,7 @@ gate_value b s given v c w m op e f =
     ∙ c.cells (gates_in (take w b.made)) cell (cell_here b w m cell e (ap (cell_of_kind r m.item.width) f))
     ∙ value_renamed (wire_widths b) (widths (finished b)) r (keeps_widths b) m.item.width op v (cell_whole (wire_widths b) w m.item.width op (gate_rule b s w m op e f))
 
-solved : (b : Built) → IsSound b → (given : List ℕ) (v : ℕ → ℕ) → IsCycle (finished b) given v → Solves b (at_wires b v)
+solved : (b : Built) → IsWellBuilt b → (given : List ℕ) (v : ℕ → ℕ) → AreValues (finished b) given v → Solves b (at_wires b v)
 solved b s given v c = record {
   fits = λ w h.
       let k = keeps_widths b w (width_at (wire_widths b) w) (h, refl) in
@@ -221,7 +221,7 @@ solved b s given v c = record {
 }
 
 -- what a register's net is given
-given_register : (b : Built) (ins : List ℕ) (f : Reg → ℕ) (v : ℕ → ℕ) → length ins ≡ length (inputs b) → IsCycle (finished b) (ins ++ map f (finished b).regs) v → (w : ℕ) (m : Made) → slice_get b.made w ≡ Some m → m.item.kind ≡ Register → v (net_of b.made w) ≡ f (record { width = m.item.width; next = next_of (net_of b.made) m.next })
+given_register : (b : Built) (ins : List ℕ) (f : Reg → ℕ) (v : ℕ → ℕ) → length ins ≡ length (inputs b) → AreValues (finished b) (ins ++ map f (finished b).regs) v → (w : ℕ) (m : Made) → slice_get b.made w ≡ Some m → m.item.kind ≡ Register → v (net_of b.made w) ≡ f (record { width = m.item.width; next = next_of (net_of b.made) m.next })
 given_register b ins f v l c w m e k =
     let r = net_of b.made in
     let y : Reg = record { width = m.item.width; next = next_of r m.next } in
@@ -232,7 +232,7 @@ given_register b ins f v l c w m e k =
     ∙ c.given_ones (inputs_in b.made + regs_in (take w b.made)) (slice_get_within given _ (f y) g)
     ∙ get_or_from_slice_get given _ (f y) 0 g
 
-pub carried : (b : Built) → IsSound b → Carries (finished b) b
+pub carried : (b : Built) → IsWellBuilt b → KeepsValues (finished b) b
 carried b s = record {
   solves = solved b s;
   starts = λ ins v l c. record {
@@ -263,22 +263,22 @@ finished_by b nets n a e f g h i =
     let same : n ≡ netlist_by (slice_index nets) b = same_parts n (netlist_by (slice_index nets) b) e (f ∙ sym (inputs_picked b)) g h i in
     same ∙ ap (λ (r : ℕ → ℕ). netlist_by r b) r
 
-pub finished_well : (b now : Built) (n : Netlist) → b ≡ now → IsSound b → undriven now ≡ [] → length b.made < 2 ^ 64 → n ≡ finished b → IsWellFormed n
+pub finished_well : (b now : Built) (n : Netlist) → b ≡ now → IsWellBuilt b → undriven now ≡ [] → length b.made < 2 ^ 64 → n ≡ finished b → IsWellFormed n
 finished_well b now n same s u few e = subst IsWellFormed (sym e) (well b s (ap undriven same ∙ u) few)
 
-pub finished_ordered : (b : Built) (n : Netlist) → IsSound b → n ≡ finished b → HasNoLoop n
+pub finished_ordered : (b : Built) (n : Netlist) → IsWellBuilt b → n ≡ finished b → HasNoLoop n
 finished_ordered b n s e = subst HasNoLoop (sym e) (no_loop b s)
 
-pub finished_carries : (b now : Built) (n : Netlist) → b ≡ now → IsSound b → n ≡ finished b → Carries n now
-finished_carries b now n same s e = subst (λ (x : Built). Carries n x) same (subst (λ (x : Netlist). Carries x b) (sym e) (carried b s))
+pub finished_carries : (b now : Built) (n : Netlist) → b ≡ now → IsWellBuilt b → n ≡ finished b → KeepsValues n now
+finished_carries b now n same s e = subst (λ (x : Built). KeepsValues n x) same (subst (λ (x : Netlist). KeepsValues x b) (sym e) (carried b s))
 
 -- the reset is net 0
-reset_net : (b : Built) → IsSound b → net_of b.made 0 ≡ 0
+reset_net : (b : Built) → IsWellBuilt b → net_of b.made 0 ≡ 0
 reset_net b s =
     let m = mapped (λ (m : Made). m.item) b.made 0 _ s.reset in
-    ap (net_at b.made 0) m.is ∙ ap (λ (i : Item). net_among (counts_of b.made) (counts_of (take 0 b.made)) i.kind) m.gives
+    ap (net_at b.made 0) m.is ∙ ap (λ (i : Item). net_among (wire_counts b.made) (wire_counts (take 0 b.made)) i.kind) m.gives
 
-reg_resets : (b : Built) → IsSound b → undriven b ≡ [] → (given : List ℕ) (v : ℕ → ℕ) → IsCycle (finished b) given v → v 0 ≡ 1 → (w : ℕ) (m : Made) (y : Reg) → slice_get b.made w ≡ Some m → reg_of (net_of b.made) m ≡ Some y → v y.next ≡ 0
+reg_resets : (b : Built) → IsWellBuilt b → undriven b ≡ [] → (given : List ℕ) (v : ℕ → ℕ) → AreValues (finished b) given v → v 0 ≡ 1 → (w : ℕ) (m : Made) (y : Reg) → slice_get b.made w ≡ Some m → reg_of (net_of b.made) m ≡ Some y → v y.next ≡ 0
 reg_resets b s u given v c z w m y e f =
     let g = reg_gives (net_of b.made) m.item.width m.next m.item.kind y f in
     let d = driven_by m.next (is_driven m g.kind (none_passes is_undriven 0 b.made u w m e)) in
@@ -286,7 +286,7 @@ reg_resets b s u given v c z w m y e f =
     ∙ ap (λ o. v (next_of (net_of b.made) o)) d.is
     ∙ s.resets w m d.wire e d.is (at_wires b v) (solved b s given v c) (ap v (reset_net b s) ∙ z)
 
-pub finished_resets : (b : Built) (n : Netlist) → IsSound b → undriven b ≡ [] → n ≡ finished b → Resets n
+pub finished_resets : (b : Built) (n : Netlist) → IsWellBuilt b → undriven b ≡ [] → n ≡ finished b → Resets n
 finished_resets b n s u e = subst Resets (sym e) (λ given v c z.
     All-map (λ x. x ≡ 0) (λ (r : Reg). v r.next) (finished b).regs
     (all_picked (reg_of (net_of b.made)) (λ (m : Made). is_register m.item.kind) (λ (y : Reg). v y.next ≡ 0) (λ m. reg_test (net_of b.made) m.item.width m.next m.item.kind) b.made (λ w m y f g. reg_resets b s u given v c z w m y f g)))

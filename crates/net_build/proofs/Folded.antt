@@ -8,7 +8,7 @@ use Rattle.std.proofs.lemmas.Bool.{cases_lt}
 use Rattle.net_build.specs.declared.types.Wire.{Wire}
 use Rattle.net_build.specs.Built.{Built, IsBit, IsWire}
 use Rattle.net_build.specs.Values.{Adds, Means, Tells, high}
-use Rattle.net_build.specs.Folds.{AreFirsts, HaveOneWidth, chosen, first_width}
+use Rattle.net_build.specs.Folds.{AreFirsts, AreOfOneWidth, chosen, first_width}
 use Rattle.net_build.proofs.Steps.{bit_adds, wire_adds}
 
 pub alone_tells : (old new : Built) (wire seen free mine : Wire) → Adds old new → Tells old free (λ v. not (high v seen)) → Tells new mine (λ v. high v wire && high v free) → Tells new mine (λ v. high v wire && not (high v seen))
@@ -53,7 +53,7 @@ first_more old mid new seen mine xs out more k d b q l m a t h e = subst (AreFir
 pub bit_at : (old new : Built) (xs : List Wire) (k : ℕ) (d : Wire) → All (IsBit old) xs → Adds old new → k < length xs → IsBit new (get_or xs k d)
 bit_at old new xs k d h a b = bit_adds old new (get_or xs k d) a (h k d b)
 
-pub value_at : (old new : Built) (xs : List Wire) (k : ℕ) (d : Wire) → HaveOneWidth old xs → Adds old new → k < length xs → IsWire new (get_or xs k d)
+pub value_at : (old new : Built) (xs : List Wire) (k : ℕ) (d : Wire) → AreOfOneWidth old xs → Adds old new → k < length xs → IsWire new (get_or xs k d)
 value_at old new xs k d h a b = wire_adds old new (get_or xs k d) a (h k d b).0
 
 pub first_width_at : (xs : List Wire) (d : Wire) → 0 < length xs → (get_or xs 0 d).width ≡ first_width xs
@@ -81,7 +81,7 @@ two_bits b x y h k zero d l = h
 two_bits b x y h k (suc zero) d l = k
 two_bits b x y h k (suc (suc n)) d l = absurd (omega arith)
 
-pub two_values : (b : Built) (x y : Wire) → IsBit b x → IsBit b y → HaveOneWidth b (x ∷ y ∷ [])
+pub two_values : (b : Built) (x y : Wire) → IsBit b x → IsBit b y → AreOfOneWidth b (x ∷ y ∷ [])
 two_values b x y h k zero d l = (h.wire, refl)
 two_values b x y h k (suc zero) d l = (k.wire, k.one ∙ sym h.one)
 two_values b x y h k (suc (suc n)) d l = absurd (omega arith)

@@ -17,7 +17,7 @@ use Rattle.net_build.specs.declared.types.Item.{Item}
 use Rattle.net_build.specs.declared.types.Made.{Made}
 use Rattle.net_build.specs.Built.{Built, items, widths_of, wire_widths, inputs, names, port_of}
 use Rattle.net_build.specs.Values.{Solves, Later}
-use Rattle.net_build.specs.Sound.{IsSound, Differ, Follows, Makes}
+use Rattle.net_build.specs.Sound.{IsWellBuilt, Differ, Follows, Makes}
 use Rattle.net_build.proofs.Lists.{get_more, get_either, all_more, all_weaker, all_listed, differ_insert}
 use Rattle.net_build.proofs.Cells.{net_more, has_more, cell_whole, value_more, fits_front}
 
@@ -36,7 +36,7 @@ long b = length-map (items b) (λ (i : Item). i.width)
 within : (b : Built) (n : ℕ) (i : Item) → slice_get (items b) n ≡ Some i → n ≤ length (wire_widths b)
 within b n i e = omega (arith, slice_get_within (items b) n i e, long b)
 
-pub solves_back : (old new : Built) (i : Item) → IsSound old → Makes old new i → (v : ℕ → ℕ) → Solves new v → Solves old v
+pub solves_back : (old new : Built) (i : Item) → IsWellBuilt old → Makes old new i → (v : ℕ → ℕ) → Solves new v → Solves old v
 solves_back old new i s m v h =
     let w = widths_made old new i m in
     let j = items_made old new i m in
@@ -48,7 +48,7 @@ solves_back old new i s m v h =
           ∙ value_more (wire_widths old) (i.width ∷ []) k.width op v (cell_whole (wire_widths old) n k.width op (s.gates n k op e f));
     }
 
-pub grown_later : (old new : Built) (i : Item) → IsSound old → Makes old new i → Later old new
+pub grown_later : (old new : Built) (i : Item) → IsWellBuilt old → Makes old new i → Later old new
 grown_later old new i s m =
     let w = widths_made old new i m in
     let j = items_made old new i m in
@@ -95,7 +95,7 @@ gate_follows b i j op f e g =
 none_some : (d : ℕ) → None ≡ Some d → ⊥
 none_some d e = cc
 
-pub grown_sound : (old new : Built) (i : Item) → IsSound old → IsWidth i.width → Follows old i.width i.kind → Makes old new i → IsSound new
+pub grown_sound : (old new : Built) (i : Item) → IsWellBuilt old → IsWidth i.width → Follows old i.width i.kind → Makes old new i → IsWellBuilt new
 grown_sound old new i s b f m =
     let w = widths_made old new i m in
     let j = items_made old new i m in

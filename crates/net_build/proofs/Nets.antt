@@ -13,7 +13,7 @@ use Rattle.net_build.specs.declared.types.Kind.TheVariants.{Input, Register, Gat
 use Rattle.net_build.specs.declared.types.Item.{Item}
 use Rattle.net_build.specs.declared.types.Made.{Made}
 use Rattle.net_build.specs.Built.{Built, items, inputs, is_register, port_of, port_of_kind, wire_widths}
-use Rattle.net_build.specs.Numbering.{cell_of, cell_of_kind, counts_of, finished, is_gate, is_input, net_among, net_at, net_of, reg_of, reg_of_kind}
+use Rattle.net_build.specs.Numbering.{cell_of, cell_of_kind, wire_counts, finished, is_gate, is_input, net_among, net_at, net_of, reg_of, reg_of_kind}
 use Rattle.net_build.proofs.Lists.{get_more}
 use Rattle.net_build.proofs.Places.{placed, many_picked, count_before, get_mapped, get_behind, picked_mapped}
 use Rattle.net_build.proofs.Renamed.{KeepsWidths}
@@ -78,7 +78,7 @@ abbrev cell_widths : Built → List ℕ
 cell_widths b = map (λ (c : Cell). c.width) (finished b).cells
 
 -- the width of a wire's net, by what gives the wire its value
-width_here : (b : Built) (w width : ℕ) (k : Kind) (next : Option ℕ) → slice_get b.made w ≡ Some (record { item = record { width = width; kind = k }; next = next }) → slice_get (widths (finished b)) (net_among (counts_of b.made) (counts_of (take w b.made)) k) ≡ Some width
+width_here : (b : Built) (w width : ℕ) (k : Kind) (next : Option ℕ) → slice_get b.made w ≡ Some (record { item = record { width = width; kind = k }; next = next }) → slice_get (widths (finished b)) (net_among (wire_counts b.made) (wire_counts (take w b.made)) k) ≡ Some width
 width_here b w width (Input name) next e =
     get_more (port_widths b ++ reg_widths b) (cell_widths b) _ _ (get_more (port_widths b) (reg_widths b) _ _ (get_mapped (λ (p : Port). p.width) (inputs b) _ _ (port_here b w width name next e)))
 width_here b w width Register next e =
@@ -117,7 +117,7 @@ keeps_widths b x width h =
     has_get (widths (finished b)) (net_of b.made x) width (net_width b x m.item m.is ∙ ap (λ w. Some w) (ap (λ (i : Item). i.width) m.gives ∙ i.gives))
 
 -- earlier wires have lower nets than a gate
-below_here : (b : Built) (w x width : ℕ) (k : Kind) (next : Option ℕ) → slice_get b.made x ≡ Some (record { item = record { width = width; kind = k }; next = next }) → x < w → w ≤ length b.made → net_among (counts_of b.made) (counts_of (take x b.made)) k < inputs_in b.made + regs_in b.made + gates_in (take w b.made)
+below_here : (b : Built) (w x width : ℕ) (k : Kind) (next : Option ℕ) → slice_get b.made x ≡ Some (record { item = record { width = width; kind = k }; next = next }) → x < w → w ≤ length b.made → net_among (wire_counts b.made) (wire_counts (take x b.made)) k < inputs_in b.made + regs_in b.made + gates_in (take w b.made)
 below_here b w x width (Input name) next e h l =
     let c : inputs_in (take x b.made) < inputs_in (take (length b.made) b.made) = count_before (λ (m : Made). is_input m.item.kind) b.made x (length b.made) _ e refl (omega arith) in
     omega (arith, c, ap inputs_in (take_all (length b.made) b.made (omega arith)))

@@ -11,7 +11,7 @@ use Rattle.net_build.specs.declared.types.Kind.{Kind}
 use Rattle.net_build.specs.declared.types.Kind.TheVariants.{Input, Register, Gate}
 use Rattle.net_build.specs.declared.types.Made.{Made}
 use Rattle.net_build.specs.declared.finish.Counts.{Counts}
-use Rattle.net_build.specs.Numbering.{counted, counts_of, net_among, net_at, net_of}
+use Rattle.net_build.specs.Numbering.{counted, wire_counts, net_among, net_at, net_of}
 
 -- one item more
 pub picked_more : {X Y : Type 0} (h : X → Option Y) (xs : List X) (k : ℕ) (x : X) → k < length xs → x ≡ get_or xs k x → filter_map h (take (k + 1) xs) ≡ filter_map h (take k xs) ++ cons_option (h x) []
@@ -30,13 +30,13 @@ same_counts a b c d e f g h i = rw g (rw h (rw i refl))
 count_last : {X : Type 0} (p : X → Bool) (xs : List X) (x : X) → count_by p (xs ++ x ∷ []) ≡ count_by p xs + cond (p x) 1 0
 count_last p xs x = sum_by-append (λ x. cond (p x) 1 0) xs (x ∷ []) ∙ omega arith
 
-counts_last : (ms : List Made) (width : ℕ) (k : Kind) (next : Option ℕ) → counts_of (ms ++ record { item = record { width = width; kind = k }; next = next } ∷ []) ≡ counted (counts_of ms) k
+counts_last : (ms : List Made) (width : ℕ) (k : Kind) (next : Option ℕ) → wire_counts (ms ++ record { item = record { width = width; kind = k }; next = next } ∷ []) ≡ counted (wire_counts ms) k
 counts_last ms width (Input name) next = same_counts _ _ _ _ _ _ (count_last _ ms _) (count_last _ ms _ ∙ omega arith) (count_last _ ms _ ∙ omega arith)
 counts_last ms width Register next = same_counts _ _ _ _ _ _ (count_last _ ms _ ∙ omega arith) (count_last _ ms _) (count_last _ ms _ ∙ omega arith)
 counts_last ms width (Gate op) next = same_counts _ _ _ _ _ _ (count_last _ ms _ ∙ omega arith) (count_last _ ms _ ∙ omega arith) (count_last _ ms _)
 
-pub counts_more : (ms : List Made) (k : ℕ) (m : Made) → k < length ms → m ≡ get_or ms k m → counts_of (take (k + 1) ms) ≡ counted (counts_of (take k ms)) m.item.kind
-counts_more ms k m b e = ap counts_of (take_more ms k m b ∙ ap (λ (x : Made). take k ms ++ x ∷ []) (sym e)) ∙ counts_last (take k ms) m.item.width m.item.kind m.next
+pub counts_more : (ms : List Made) (k : ℕ) (m : Made) → k < length ms → m ≡ get_or ms k m → wire_counts (take (k + 1) ms) ≡ counted (wire_counts (take k ms)) m.item.kind
+counts_more ms k m b e = ap wire_counts (take_more ms k m b ∙ ap (λ (x : Made). take k ms ++ x ∷ []) (sym e)) ∙ counts_last (take k ms) m.item.width m.item.kind m.next
 
 -- the nets of one wire more
 pub nets_step : (ms : List Made) (nets new : List ℕ) (k net : ℕ) → length nets ≡ k → new ≡ nets ++ net ∷ [] → net ≡ net_of ms k → ((w : ℕ) → w < k → get_or nets w 0 ≡ net_of ms w) → (w : ℕ) → w < k + 1 → get_or new w 0 ≡ net_of ms w
@@ -47,8 +47,8 @@ nets_step ms nets new k net l n e h w b = ap (λ (x : List ℕ). get_or x w 0) n
       get_or_push nets net 0 w (let z : length nets ≡ w = omega arith in z) ∙ e ∙ ap (net_of ms) (sym f)
 ]
 
-pub net_here : (ms : List Made) (k : ℕ) (m : Made) (all before : Counts) → k < length ms → m ≡ get_or ms k m → all ≡ counts_of ms → before ≡ counts_of (take k ms) → net_among all before m.item.kind ≡ net_of ms k
+pub net_here : (ms : List Made) (k : ℕ) (m : Made) (all before : Counts) → k < length ms → m ≡ get_or ms k m → all ≡ wire_counts ms → before ≡ wire_counts (take k ms) → net_among all before m.item.kind ≡ net_of ms k
 net_here ms k m all before b e f g =
     ap (λ (x : Counts). net_among x before m.item.kind) f
-    ∙ ap (λ (x : Counts). net_among (counts_of ms) x m.item.kind) g
+    ∙ ap (λ (x : Counts). net_among (wire_counts ms) x m.item.kind) g
     ∙ sym (ap (net_at ms k) (slice_get_read ms (length ms) k m refl b e))

@@ -7,7 +7,7 @@ use Rattle.net_cells.specs.declared.netlist.Port.{Port}
 use Rattle.net_build.specs.declared.types.Wire.{Wire}
 use Rattle.net_build.specs.Built.{Built, inputs, names, IsNewName, IsWire}
 use Rattle.net_build.specs.Values.{AddsOutput}
-use Rattle.net_build.specs.Sound.{IsSound, Differ}
+use Rattle.net_build.specs.Sound.{IsWellBuilt, Differ}
 use Rattle.net_build.proofs.Lists.{all_more, all_listed, differ_last}
 
 abbrev pub shown : Built → OutPort → Built
@@ -19,7 +19,7 @@ names_shown b port =
     let ins = map (λ (p : Port). p.name) (inputs b) in
     ap (λ (x : List (List ℕ)). ins ++ x) (map-append (λ (o : OutPort). o.name) b.outputs (port ∷ [])) ∙ sym (append_assoc ins outs (port.name ∷ []))
 
-pub output_sound : (b : Built) (name : List ℕ) (w : Wire) → IsSound b → IsNewName b name → IsWire b w → IsSound (shown b (record { name = name; net = w.number }))
+pub output_sound : (b : Built) (name : List ℕ) (w : Wire) → IsWellBuilt b → IsNewName b name → IsWire b w → IsWellBuilt (shown b (record { name = name; net = w.number }))
 output_sound b name w s n h =
     let port : OutPort = record { name = name; net = w.number } in
     record {

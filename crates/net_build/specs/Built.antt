@@ -24,6 +24,7 @@ items b = map (λ (m : Made). m.item) b.made
 abbrev pub widths_of : List Item → List ℕ
 widths_of is = map (λ (i : Item). i.width) is
 
+-- the widths of a builder's wires
 abbrev pub wire_widths : Built → List ℕ
 wire_widths b = widths_of (items b)
 
@@ -33,6 +34,7 @@ port_of_kind width (Input name) = Some (record { name = name; width = width })
 port_of_kind width Register = None
 port_of_kind width (Gate op) = None
 
+-- the port of an item that is an input
 abbrev pub port_of : Item → Option Port
 port_of i = port_of_kind i.width i.kind
 
@@ -44,6 +46,7 @@ inputs b = filter_map port_of (items b)
 abbrev pub names : Built → List (List ℕ)
 names b = map (λ (p : Port). p.name) (inputs b) ++ map (λ (o : OutPort). o.name) b.outputs
 
+-- whether an item of this kind is a register
 abbrev pub is_register : Kind → Bool
 is_register (Input name) = false
 is_register Register = true
@@ -52,12 +55,14 @@ is_register (Gate op) = false
 -- the numbers of the items that pass a test, counted from a first number
 abbrev pub numbers_where : {A : Type 0} → (A → Bool) → ℕ → List A → List ℕ
 numbers_where test from [] = []
-numbers_where test from (x ∷ xs) = cond (test x) (from ∷ numbers_where test (from + 1) xs) (numbers_where test (from + 1) xs)
+numbers_where test from (x ∷ xs) =
+    cond (test x) (from ∷ numbers_where test (from + 1) xs) (numbers_where test (from + 1) xs)
 
--- the numbers of the registers that aren't driven yet, in the order of making
+-- whether a wire is a register that isn't driven yet
 abbrev pub is_undriven : Made → Bool
 is_undriven m = is_register m.item.kind && is_none m.next
 
+-- the numbers of a builder's registers that aren't driven yet
 abbrev pub undriven : Built → List ℕ
 undriven b = numbers_where is_undriven 0 b.made
 

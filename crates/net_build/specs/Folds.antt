@@ -7,7 +7,8 @@ use Rattle.net_build.specs.Values.{Solves, high}
 
 -- each of the wires ws is 1 exactly where that of xs is and no earlier one of xs is
 pub record AreFirsts (b : Built) (xs ws : List Wire) : Type 0 where
-  pub at : (v : ℕ → ℕ) → Solves b v → (k : ℕ) (d : Wire) → k < length ws → high v (slice_index_or ws k d) ≡ (high v (slice_index_or xs k d) && not (list_any (high v) (take k xs)))
+  pub at : (v : ℕ → ℕ) → Solves b v → (k : ℕ) (d : Wire) → k < length ws
+      → high v (slice_index_or ws k d) ≡ (high v (slice_index_or xs k d) && not (list_any (high v) (take k xs)))
 
 -- the value of the first pick that is 1, and 0 where none is
 abbrev pub chosen : (ℕ → ℕ) → List Wire → List Wire → ℕ
@@ -21,5 +22,5 @@ first_width [] = 0
 first_width (w ∷ ws) = w.width
 
 -- wires of the builder, all of one width
-abbrev pub HaveOneWidth : Built → List Wire → Type 0
-HaveOneWidth b ws = All (λ (w : Wire). IsWire b w × (w.width ≡ first_width ws)) ws
+abbrev pub AreOfOneWidth : Built → List Wire → Type 0
+AreOfOneWidth b ws = All (λ (w : Wire). IsWire b w × (w.width ≡ first_width ws)) ws

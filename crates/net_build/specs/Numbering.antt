@@ -7,7 +7,7 @@ use Rattle.net_cells.specs.declared.netlist.Cell.{Cell}
 use Rattle.net_cells.specs.declared.netlist.Reg.{Reg}
 use Rattle.net_cells.specs.declared.netlist.OutPort.{OutPort}
 use Rattle.net_cells.specs.declared.netlist.Netlist.{Netlist}
-use Rattle.net_cells.specs.Values.{IsCycle, first_registers, next_registers}
+use Rattle.net_cells.specs.Values.{AreValues, first_registers, next_registers}
 use Rattle.net_build.specs.declared.types.Kind.{Kind}
 use Rattle.net_build.specs.declared.types.Kind.TheVariants.{Input, Register, Gate}
 use Rattle.net_build.specs.declared.types.Made.{Made}
@@ -15,19 +15,21 @@ use Rattle.net_build.specs.declared.finish.Counts.{Counts}
 use Rattle.net_build.specs.Built.{Built, inputs, is_register}
 use Rattle.net_build.specs.Values.{Solves, Ticks, AtStart}
 
+-- whether a wire of this kind is an input
 abbrev pub is_input : Kind → Bool
 is_input (Input name) = true
 is_input Register = false
 is_input (Gate op) = false
 
+-- whether a wire of this kind has an operator
 abbrev pub is_gate : Kind → Bool
 is_gate (Input name) = false
 is_gate Register = false
 is_gate (Gate op) = true
 
 -- how many wires of each kind there are
-abbrev pub counts_of : List Made → Counts
-counts_of ms = record {
+abbrev pub wire_counts : List Made → Counts
+wire_counts ms = record {
   inputs = count_by (λ (m : Made). is_input m.item.kind) ms;
   regs = count_by (λ (m : Made). is_register m.item.kind) ms;
   gates = count_by (λ (m : Made). is_gate m.item.kind) ms;
@@ -39,9 +41,10 @@ net_among all before (Input name) = before.inputs
 net_among all before Register = all.inputs + before.regs
 net_among all before (Gate op) = all.inputs + all.regs + before.gates
 
+-- the net of the wire with this number, where it is this one
 abbrev pub net_at : List Made → ℕ → Option Made → ℕ
 net_at ms w None = 0
-net_at ms w (Some m) = net_among (counts_of ms) (counts_of (take w ms)) m.item.kind
+net_at ms w (Some m) = net_among (wire_counts ms) (wire_counts (take w ms)) m.item.kind
 
 -- the net of a wire: the inputs come first, then the registers, then the gates, each in the order of making
 abbrev pub net_of : List Made → ℕ → ℕ
@@ -62,6 +65,7 @@ renamed r (Mux c x y) = Mux (r c) (r x) (r y)
 renamed r (Concat x y) = Concat (r x) (r y)
 renamed r (Select x hi lo) = Select (r x) hi lo
 
+-- what a register takes: the net of the wire before it, 0 where it isn't driven
 abbrev pub next_of : (ℕ → ℕ) → Option ℕ → ℕ
 next_of r None = 0
 next_of r (Some next) = r next
@@ -72,6 +76,7 @@ reg_of_kind r width next (Input name) = None
 reg_of_kind r width next Register = Some (record { width = width; next = next_of r next })
 reg_of_kind r width next (Gate op) = None
 
+-- the register of a wire that is one, with the nets numbered by r
 abbrev pub reg_of : (ℕ → ℕ) → Made → Option Reg
 reg_of r m = reg_of_kind r m.item.width m.next m.item.kind
 
@@ -81,9 +86,11 @@ cell_of_kind r width (Input name) = None
 cell_of_kind r width Register = None
 cell_of_kind r width (Gate op) = Some (record { width = width; op = renamed r op })
 
+-- the cell of a wire that has an operator, with the nets numbered by r
 abbrev pub cell_of : (ℕ → ℕ) → Made → Option Cell
 cell_of r m = cell_of_kind r m.item.width m.item.kind
 
+-- an output, with the nets numbered by r
 abbrev pub out_of : (ℕ → ℕ) → OutPort → OutPort
 out_of r o = record { name = o.name; net = r o.net }
 
@@ -105,11 +112,14 @@ finished b = netlist_by (net_of b.made) b
 abbrev pub at_wires : Built → (ℕ → ℕ) → ℕ → ℕ
 at_wires b v w = v (net_of b.made w)
 
--- Each wire keeps its value in the netlist: values of a cycle of the netlist are values that the wires may have; in the first cycle the registers hold 0; from cycle to cycle each takes the value before it.
-pub record Carries (n : Netlist) (b : Built) : Type 0 where
-  pub solves : (given : List ℕ) (v : ℕ → ℕ) → IsCycle n given v → Solves b (at_wires b v)
-  pub starts : (ins : List ℕ) (v : ℕ → ℕ) → length ins ≡ length n.inputs → IsCycle n (ins ++ first_registers n) v → AtStart b (at_wires b v)
-  pub ticks : (ins : List ℕ) (v u : ℕ → ℕ) → length ins ≡ length n.inputs → IsCycle n (ins ++ next_registers n v) u → Ticks b (at_wires b v) (at_wires b u)
+-- Each wire keeps its value in the netlist: values of a cycle of the netlist are values that the wires may have; in
+-- the first cycle the registers hold 0; from cycle to cycle each takes the value before it.
+pub record KeepsValues (n : Netlist) (b : Built) : Type 0 where
+  pub solves : (given : List ℕ) (v : ℕ → ℕ) → AreValues n given v → Solves b (at_wires b v)
+  pub starts : (ins : List ℕ) (v : ℕ → ℕ) → length ins ≡ length n.inputs → AreValues n (ins ++ first_registers n) v
+      → AtStart b (at_wires b v)
+  pub ticks : (ins : List ℕ) (v u : ℕ → ℕ) → length ins ≡ length n.inputs → AreValues n (ins ++ next_registers n v) u
+      → Ticks b (at_wires b v) (at_wires b u)
 
 -- one wire of this kind more
 abbrev pub counted : Counts → Kind → Counts
@@ -124,4 +134,4 @@ pub record AreNets (ms : List Made) (nets : List ℕ) : Type 0 where
 
 -- After a cycle in which net 0, the reset, is 1, every register holds 0.
 abbrev pub Resets : Netlist → Type 0
-Resets n = (given : List ℕ) (v : ℕ → ℕ) → IsCycle n given v → v 0 ≡ 1 → All (λ x. x ≡ 0) (next_registers n v)
+Resets n = (given : List ℕ) (v : ℕ → ℕ) → AreValues n given v → v 0 ≡ 1 → All (λ x. x ≡ 0) (next_registers n v)

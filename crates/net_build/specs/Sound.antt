@@ -17,16 +17,20 @@ abbrev pub Differ : List (List ℕ) → Type 0
 Differ [] = Unit {0}
 Differ (x ∷ xs) = AllByRecursion (λ y. x ≢ y) xs × Differ xs
 
--- Its name and ports have the names that a netlist asks for, wire 0 is the input `reset`, each wire has a width that a net may have,
--- each operator reads earlier wires by its rule, and what is put before a register has its width and is 0 after a reset.
-pub record IsSound (b : Built) : Type 0 where
+-- Its name and ports have the names that a netlist asks for, wire 0 is the input `reset`, each wire has a width that
+-- a net may have, each operator reads earlier wires by its rule, and what is put before a register has its width and
+-- is 0 after a reset.
+pub record IsWellBuilt (b : Built) : Type 0 where
   pub name : IsNamed (codes "m_") b.name
   pub reset : slice_get (items b) 0 ≡ Some (record { width = 1; kind = Input (codes "reset") })
   pub sized : AllByRecursion IsWidth (wire_widths b)
-  pub gates : (n : ℕ) (i : Item) (op : CellOp) → slice_get (items b) n ≡ Some i → i.kind ≡ Gate op → IsCell (take n (wire_widths b)) i.width op
-  pub nexts : (n : ℕ) (m : Made) (d : ℕ) → slice_get b.made n ≡ Some m → m.next ≡ Some d → HasWidth (wire_widths b) d m.item.width
+  pub gates : (n : ℕ) (i : Item) (op : CellOp) → slice_get (items b) n ≡ Some i → i.kind ≡ Gate op
+      → IsCell (take n (wire_widths b)) i.width op
+  pub nexts : (n : ℕ) (m : Made) (d : ℕ) → slice_get b.made n ≡ Some m → m.next ≡ Some d
+      → HasWidth (wire_widths b) d m.item.width
   pub held : (n : ℕ) (m : Made) (d : ℕ) → slice_get b.made n ≡ Some m → m.next ≡ Some d → m.item.kind ≡ Register
-  pub resets : (n : ℕ) (m : Made) (d : ℕ) → slice_get b.made n ≡ Some m → m.next ≡ Some d → (v : ℕ → ℕ) → Solves b v → v 0 ≡ 1 → v d ≡ 0
+  pub resets : (n : ℕ) (m : Made) (d : ℕ) → slice_get b.made n ≡ Some m → m.next ≡ Some d → (v : ℕ → ℕ) → Solves b v
+      → v 0 ≡ 1 → v d ≡ 0
   pub ports : AllByRecursion (λ (p : Port). IsNamed (codes "p_") p.name) (drop 1 (inputs b))
   pub shown : AllByRecursion (λ (o : OutPort). IsNamed (codes "p_") o.name × IsNet (wire_widths b) o.net) b.outputs
   pub distinct : Differ (names b)

@@ -14,7 +14,8 @@ use Rattle.net_build.specs.Built.{Built, items, wire_widths, inputs, undriven}
 -- Values that the wires may have in one cycle: each has its width, and each operator's equation holds.
 pub record Solves (b : Built) (v : ℕ → ℕ) : Type 0 where
   pub fits : FitsAll (wire_widths b) v
-  pub gates : (n : ℕ) (i : Item) (op : CellOp) → slice_get (items b) n ≡ Some i → i.kind ≡ Gate op → v n ≡ op_value (wire_widths b) i.width op v
+  pub gates : (n : ℕ) (i : Item) (op : CellOp) → slice_get (items b) n ≡ Some i → i.kind ≡ Gate op
+      → v n ≡ op_value (wire_widths b) i.width op v
 
 -- Values of one cycle, and of the next: each register that is driven takes the value of the wire before it.
 pub record Ticks (b : Built) (v u : ℕ → ℕ) : Type 0 where
@@ -76,14 +77,14 @@ pub record Drives (old new : Built) (register : ℕ) : Type 0 where
   pub outputs : new.outputs ≡ old.outputs
   pub undriven : undriven new ≡ filter (λ n. not (n == register)) (undriven old)
 
--- A later builder with one more input, and nothing else.
+-- A later builder with one more input and no other port. Its further registers are driven.
 pub record AddsInput (old new : Built) (port : Port) : Type 0 where
   pub later : Later old new
   pub inputs : inputs new ≡ inputs old ++ port ∷ []
   pub outputs : new.outputs ≡ old.outputs
   pub undriven : undriven new ≡ undriven old
 
--- A later builder with one more output, and nothing else.
+-- A later builder with one more output and no other port. Its further registers are driven.
 pub record AddsOutput (old new : Built) (port : OutPort) : Type 0 where
   pub later : Later old new
   pub inputs : inputs new ≡ inputs old

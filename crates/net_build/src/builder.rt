@@ -1,7 +1,7 @@
 ghost use Rattle.std.specs.Prelude.{◌≡◌, ◌+◌, ◌-◌, ◌*◌, ◌/◌, ◌%◌, ◌^◌, ◌<◌, ◌≤◌, [], ◌∷◌, length, IfOk, if◌then◌else◌, ◌==◌, nat_lt, bit_and, bit_or, bit_xor, codes};
 ghost use Rattle.net_cells.specs.Loops.{HasNoLoop};
 ghost use Rattle.net_cells.specs.Rules.{IsCell, IsNamed, IsWellFormed, IsWidth};
-ghost use Rattle.net_build.specs.Numbering.{Carries, Resets, finished};
+ghost use Rattle.net_build.specs.Numbering.{KeepsValues, Resets, finished};
 ghost use Rattle.net_cells.specs.Values.{op_value};
 ghost use Rattle.net_build.specs.Built.{Built, items, wire_widths, undriven, begun, IsWire, IsBit, IsUndriven, IsNewName};
 ghost use Rattle.net_build.specs.Sound.{Follows, HasNext, IsLowInReset, Makes};
@@ -26,13 +26,17 @@ pub struct Builder {
 
 impl Model for Builder {
     ghost use Rattle.net_build.specs.Built.{Built};
-    ghost use Rattle.net_build.specs.Sound.{IsSound};
+    ghost use Rattle.net_build.specs.Sound.{IsWellBuilt};
 
     ghost Value = { Built };
 
     ghost view = { λ b. record { name = b.name; made = b.made.items; outputs = b.outputs } };
 
-    ghost invariant = { λ b. IsSound (record { name = b.name; made = b.made.items; outputs = b.outputs }) };
+    ghost invariant = { λ b. IsWellBuilt (record {
+      name = b.name;
+      made = b.made.items;
+      outputs = b.outputs;
+    }) };
 }
 
 impl Builder {
@@ -61,7 +65,7 @@ impl Builder {
         })
     }
 
-    /// Makes one wire.
+    // Makes one wire.
     fn make(&mut self, width: u32, kind: Kind) -> Result<Wire, Memory>
         requires width { IsWidth width }
         requires rule { Follows self.old width kind }
@@ -117,7 +121,7 @@ impl Builder {
         Ok(wire)
     }
 
-    /// Makes a cell.
+    // Makes a cell.
     #[tactic(auto, using(crate::proofs::Wires::gates))]
     fn gate(&mut self, width: u32, op: CellOp) -> Result<Wire, Memory>
         requires width { IsWidth width }
@@ -289,7 +293,7 @@ impl Builder {
         self.alloc
     }
 
-    /// The input `reset`.
+    // The input `reset`.
     fn reset(&self) -> Wire
         ensures wire { IsBit self.now result }
         ensures number { result.number ≡ 0 }
@@ -301,7 +305,7 @@ impl Builder {
         }
     }
 
-    /// 0 where `reset` is 1, else a wire.
+    // 0 where `reset` is 1, else a wire.
     #[tactic(auto, using(crate::proofs::Steps::steps))]
     fn unless_reset(&mut self, wire: Wire) -> Result<Wire, Memory>
         requires { IsWire self.old wire }
@@ -315,7 +319,7 @@ impl Builder {
         Ok(kept)
     }
 
-    /// Puts a wire that is 0 where `reset` is 1 before a register.
+    // Puts a wire that is 0 where `reset` is 1 before a register.
     fn put(&mut self, register: Wire, before: Wire)
         requires register { IsUndriven self.old register }
         requires wire { IsWire self.old before × (before.width ≡ register.width) }
@@ -347,7 +351,7 @@ impl Builder {
         ensures netlist { IfOk result (λ n. n ≡ finished self) }
         ensures well_formed { IfOk result IsWellFormed }
         ensures no_loop { IfOk result HasNoLoop }
-        ensures carries { IfOk result (λ n. Carries n self) }
+        ensures carries { IfOk result (λ n. KeepsValues n self) }
         ensures resets { IfOk result Resets }
     {
         let Builder {

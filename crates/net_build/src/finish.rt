@@ -2,7 +2,7 @@ ghost use Rattle.std.specs.Prelude.{◌≡◌, ◌+◌, ◌^◌, ◌<◌, IfOk, 
 ghost use Rattle.std.specs.List.{cons_option, filter_map};
 ghost use Rattle.net_build.specs.declared.types.Made.{Made};
 ghost use Rattle.net_build.specs.Built.{port_of};
-ghost use Rattle.net_build.specs.Numbering.{AreNets, cell_of, counted, counts_of, finished, net_among, next_of, out_of, reg_of, renamed};
+ghost use Rattle.net_build.specs.Numbering.{AreNets, cell_of, counted, wire_counts, finished, net_among, next_of, out_of, reg_of, renamed};
 
 use crate::types::{Item, Kind, Made};
 use dip_lists::{Items, Memory};
@@ -21,7 +21,7 @@ pub struct Counts {
     pub gates: u64,
 }
 
-/// One wire more.
+// One wire more.
 fn counted(counts: Counts, kind: &Kind) -> Counts
     requires { counts.inputs + counts.regs + counts.gates + 1 < 2 ^ 64 }
     ensures { result ≡ counted counts kind.now }
@@ -35,8 +35,9 @@ fn counted(counts: Counts, kind: &Kind) -> Counts
     counts
 }
 
+// How many wires of each kind there are.
 fn count(made: &[Made]) -> Counts
-    ensures { result ≡ counts_of made.now }
+    ensures { result ≡ wire_counts made.now }
 {
     let mut counts = Counts {
         inputs: 0,
@@ -49,7 +50,7 @@ fn count(made: &[Made]) -> Counts
     counts
 }
 
-/// The net of a wire of this kind, with so many wires in all and so many before it.
+// The net of a wire of this kind, with so many wires in all and so many before it.
 fn net_among(all: Counts, before: Counts, kind: &Kind) -> u64
     requires all { all.inputs + all.regs < 2 ^ 63 }
     requires before { before.regs + before.gates < 2 ^ 63 }
@@ -62,7 +63,7 @@ fn net_among(all: Counts, before: Counts, kind: &Kind) -> u64
     }
 }
 
-/// The nets of all wires, in their order.
+// The nets of all wires, in their order.
 fn nets_of(alloc: Global, made: &[Made]) -> Result<Vec<u64>, Memory>
     ensures { IfOk result (λ nets. AreNets made.now nets.items) }
 {
@@ -76,13 +77,14 @@ fn nets_of(alloc: Global, made: &[Made]) -> Result<Vec<u64>, Memory>
     Ok(nets)
 }
 
-/// The net of a wire.
+// The net of a wire.
 fn net(nets: &[u64], wire: u64) -> u64
     ensures { result ≡ slice_index nets.now wire }
 {
     nets.get(wire as usize).copied().unwrap_or(0)
 }
 
+// An operator, with its operands numbered anew.
 fn renamed(op: CellOp, nets: &[u64]) -> CellOp
     ensures { result ≡ renamed (slice_index nets.now) op }
 {
@@ -106,6 +108,7 @@ fn renamed(op: CellOp, nets: &[u64]) -> CellOp
     }
 }
 
+// The net of the wire before a register; 0 where it has none.
 fn next_of(next: Option<u64>, nets: &[u64]) -> u64
     ensures { result ≡ next_of (slice_index nets.now) next }
 {
@@ -115,6 +118,7 @@ fn next_of(next: Option<u64>, nets: &[u64]) -> u64
     }
 }
 
+// The register of a wire that is one.
 fn reg_of(made: &Made, nets: &[u64]) -> Option<Reg>
     ensures { result ≡ reg_of (slice_index nets.now) made.now }
 {
@@ -127,6 +131,7 @@ fn reg_of(made: &Made, nets: &[u64]) -> Option<Reg>
     }
 }
 
+// The cell of a wire that has an operator.
 fn cell_of(made: &Made, nets: &[u64]) -> Option<Cell>
     ensures { result ≡ cell_of (slice_index nets.now) made.now }
 {
@@ -139,6 +144,7 @@ fn cell_of(made: &Made, nets: &[u64]) -> Option<Cell>
     }
 }
 
+// The port of a wire that is an input.
 fn port_of(alloc: Global, item: &Item) -> Result<Option<Port>, Memory>
     ensures { IfOk result (λ port. port ≡ port_of item.now) }
 {
@@ -151,7 +157,7 @@ fn port_of(alloc: Global, item: &Item) -> Result<Option<Port>, Memory>
     }
 }
 
-/// Adds an item at the end, if there is one.
+// Adds an item at the end, if there is one.
 fn push_some<T: Drop>(items: &mut Items<T>, item: Option<T>) -> Result<(), Memory>
     ensures { IfOk result (λ _. items.new ≡ items.old ++ cons_option item []) }
 {
@@ -161,7 +167,7 @@ fn push_some<T: Drop>(items: &mut Items<T>, item: Option<T>) -> Result<(), Memor
     }
 }
 
-/// The inputs.
+// The inputs.
 fn ports_of(alloc: Global, made: &[Made]) -> Result<Ports, Memory>
     ensures { IfOk result (λ ports. ports ≡ filter_map (λ (m : Made). port_of m.item) made.now) }
 {
@@ -172,7 +178,7 @@ fn ports_of(alloc: Global, made: &[Made]) -> Result<Ports, Memory>
     Ok(ports)
 }
 
-/// The registers, with the nets numbered anew.
+// The registers, with the nets numbered anew.
 fn regs_of(alloc: Global, made: &[Made], nets: &[u64]) -> Result<Regs, Memory>
     ensures { IfOk result (λ regs. regs ≡ filter_map (reg_of (slice_index nets.now)) made.now) }
 {
@@ -183,7 +189,7 @@ fn regs_of(alloc: Global, made: &[Made], nets: &[u64]) -> Result<Regs, Memory>
     Ok(regs)
 }
 
-/// The cells, with the nets numbered anew.
+// The cells, with the nets numbered anew.
 fn cells_of(alloc: Global, made: &[Made], nets: &[u64]) -> Result<CellList, Memory>
     ensures { IfOk result (λ cells. cells ≡ filter_map (cell_of (slice_index nets.now)) made.now) }
 {
@@ -194,7 +200,7 @@ fn cells_of(alloc: Global, made: &[Made], nets: &[u64]) -> Result<CellList, Memo
     Ok(cells)
 }
 
-/// The outputs, with the nets numbered anew.
+// The outputs, with the nets numbered anew.
 fn outputs_of(alloc: Global, ports: &[OutPort], nets: &[u64]) -> Result<OutPorts, Memory>
     ensures { IfOk result (λ outputs. outputs ≡ map (out_of (slice_index nets.now)) ports.now) }
 {

@@ -1,7 +1,7 @@
 ghost use Rattle.std.specs.Prelude.{◌≡◌, ◌<◌, IfOk, All, not, ◌&&◌, length};
 ghost use Rattle.std.specs.List.{list_any};
 ghost use Rattle.net_build.specs.Built.{IsBit, IsWire};
-ghost use Rattle.net_build.specs.Folds.{AreFirsts, HaveOneWidth, chosen, first_width};
+ghost use Rattle.net_build.specs.Folds.{AreFirsts, AreOfOneWidth, chosen, first_width};
 ghost use Rattle.net_build.specs.Values.{Adds, Means, Tells, high};
 
 use crate::bits::{both, either, inverse, low};
@@ -9,7 +9,7 @@ use crate::builder::Builder;
 use crate::types::{Wire, Wires};
 use dip_lists::{Items, Memory};
 
-/// 1 where a wire is and none seen before it was.
+// 1 where a wire is and none seen before it was.
 #[tactic(auto, using(crate::proofs::Steps::steps, crate::proofs::Folded::alone_tells))]
 fn alone(builder: &mut Builder, seen: Wire, wire: Wire) -> Result<Wire, Memory>
     requires { IsBit builder.old seen × IsBit builder.old wire }
@@ -60,7 +60,7 @@ impl Builder {
         requires some { 0 < length picks.now }
         requires long { length values.now ≡ length picks.now }
         requires picks { All (IsBit self.old) picks.now }
-        requires values { HaveOneWidth self.old values.now }
+        requires values { AreOfOneWidth self.old values.now }
         ensures adds { IfOk result (λ _. Adds self.old self.new) }
         ensures wire { IfOk result (λ w. IsWire self.new w × (w.width ≡ first_width values.now)) }
         ensures value { IfOk result (λ w. Means self.new w (λ v. chosen v picks.now values.now)) }

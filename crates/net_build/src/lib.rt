@@ -10,8 +10,3 @@ mod types;
 pub use bits::{both, either, inverse, low};
 pub use builder::Builder;
 pub use types::{Item, Kind, Made, Wire, Wires};
-
-#[cfg(test)]
-mod queue;
-#[cfg(test)]
-mod tests;

@@ -10,7 +10,7 @@ use Rattle.net_cells.specs.declared.netlist.Reg.{Reg}
 use Rattle.net_cells.specs.declared.netlist.Cell.{Cell}
 use Rattle.net_cells.specs.declared.netlist.Netlist.{Netlist}
 use Rattle.net_cells.specs.Rules.{IsWellFormed, IsCell, sources, widths, width_at}
-use Rattle.net_cells.specs.Values.{IsCycle, FitsAll, op_value}
+use Rattle.net_cells.specs.Values.{AreValues, FitsAll, op_value}
 use Rattle.net_cells.specs.Loops.{Reads, HasNoLoop, AreGiven, EachCycleIsOne, operands}
 use Rattle.net_cells.proofs.Operators.{every, pick, op_same, op_fits, exist}
 use Rattle.net_cells.proofs.Paths.{Within, all_within}
@@ -79,7 +79,7 @@ reads : (n : Netlist) (net : ℕ) (a : CellAt n net) (x : ℕ) → sources n ≤
 reads n net a x h o = record { place = net - sources n; cell = a.cell; here = omega arith; is = a.is; operand = o }
 
 -- all assignments agree at a net that stands on so many cells
-same_values : (n : Netlist) → IsWellFormed n → (given : List ℕ) → length given ≡ sources n → (v u : ℕ → ℕ) → IsCycle n given v → IsCycle n given u → (steps net : ℕ) → net < length (widths n) → Within n steps net → v net ≡ u net
+same_values : (n : Netlist) → IsWellFormed n → (given : List ℕ) → length given ≡ sources n → (v u : ℕ → ℕ) → AreValues n given v → AreValues n given u → (steps net : ℕ) → net < length (widths n) → Within n steps net → v net ≡ u net
 same_values n w given l v u c d zero net b h = c.given_ones net (omega arith) ∙ sym (d.given_ones net (omega arith))
 same_values n w given l v u c d (suc steps) net b h = elim (cases_lt net (sources n)) [
   | inl s ↦ c.given_ones net (omega arith) ∙ sym (d.given_ones net (omega arith))
@@ -139,7 +139,7 @@ given_values n given (suc steps) net b = step_source n given (values n given ste
 pub one_cycle : EachCycleIsOne
 one_cycle n w a given g =
     let last = length (widths n) in
-    let cycle : IsCycle n given (values n given last) = record {
+    let cycle : AreValues n given (values n given last) = record {
       fits = values_fit n w given g last;
       given_ones = given_values n given last;
       cells = value_cell n w a given g;

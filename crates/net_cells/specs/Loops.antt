@@ -5,7 +5,7 @@ use Rattle.net_cells.specs.declared.netlist.CellOp.{CellOp}
 use Rattle.net_cells.specs.declared.netlist.CellOp.TheVariants.{Const, Not, And, Or, Xor, Add, Sub, Eq, Less, Mux, Concat, Select}
 use Rattle.net_cells.specs.declared.netlist.Netlist.{Netlist}
 use Rattle.net_cells.specs.Rules.{IsWellFormed, sources, widths, width_at}
-use Rattle.net_cells.specs.Values.{IsCycle}
+use Rattle.net_cells.specs.Values.{AreValues}
 
 -- the nets that an operator reads
 abbrev pub operands : CellOp → List ℕ
@@ -51,9 +51,10 @@ pub record AreGiven (n : Netlist) (given : List ℕ) : Type 0 where
 -- There are values of a cycle, and no others: all give each net the same.
 pub record HasOneCycle (n : Netlist) (given : List ℕ) : Type 0 where
   pub value : ℕ → ℕ
-  pub is : IsCycle n given value
-  pub only : (v : ℕ → ℕ) → IsCycle n given v → (net : ℕ) → net < length (widths n) → v net ≡ value net
+  pub is : AreValues n given value
+  pub only : (v : ℕ → ℕ) → AreValues n given v → (net : ℕ) → net < length (widths n) → v net ≡ value net
 
 -- Where no net depends on itself through cells, there is exactly one assignment of values for each given ones.
 abbrev pub EachCycleIsOne : Type 0
-EachCycleIsOne = (n : Netlist) → IsWellFormed n → HasNoLoop n → (given : List ℕ) → AreGiven n given → HasOneCycle n given
+EachCycleIsOne =
+    (n : Netlist) → IsWellFormed n → HasNoLoop n → (given : List ℕ) → AreGiven n given → HasOneCycle n given

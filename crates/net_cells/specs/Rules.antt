@@ -1,7 +1,6 @@
 -- Which netlists are well formed.
 use Rattle.std.specs.Prelude.{◌≡◌, ◌≢◌, ℕ, ◌+◌, ◌-◌, ◌^◌, ◌<◌, ◌≤◌, IsTrue, List, ◌++◌, length, map, drop, take, slice_index, slice_get, Some, All, AllPairs, nat_eq, codes}
 use Rattle.std.specs.List.{starts_with}
-use Rattle.net_cells.specs.declared.netlist.TheConstants.{WIDTH_LIMIT}
 use Rattle.net_cells.specs.declared.netlist.Port.{Port}
 use Rattle.net_cells.specs.declared.netlist.Reg.{Reg}
 use Rattle.net_cells.specs.declared.netlist.Cell.{Cell}
@@ -12,15 +11,16 @@ use Rattle.net_cells.specs.declared.netlist.Netlist.{Netlist}
 
 -- the widths of all nets, in the order of their numbers: inputs, registers, cells
 abbrev pub widths : Netlist → List ℕ
-widths n = map (λ (p : Port). p.width) n.inputs ++ map (λ (r : Reg). r.width) n.regs ++ map (λ (c : Cell). c.width) n.cells
+widths n =
+    map (λ (p : Port). p.width) n.inputs ++ map (λ (r : Reg). r.width) n.regs ++ map (λ (c : Cell). c.width) n.cells
 
 -- the number of the first cell's net
 abbrev pub sources : Netlist → ℕ
 sources n = length n.inputs + length n.regs
 
--- a width that a net may have
+-- a width that a net may have: 1 to 64 bits
 abbrev pub IsWidth : ℕ → Type 0
-IsWidth width = (1 ≤ width) × (width ≤ WIDTH_LIMIT)
+IsWidth width = (1 ≤ width) × (width ≤ 64)
 
 -- among nets of these widths, the net exists
 abbrev pub IsNet : List ℕ → ℕ → Type 0
@@ -69,7 +69,8 @@ port_names n = map (λ (p : Port). p.name) n.inputs ++ map (λ (o : OutPort). o.
 abbrev pub IsFirst : List (List ℕ) → ℕ → Type 0
 IsFirst names place = All (λ x. Some x ≢ slice_get names place) (take place names)
 
--- A netlist is well formed: its name, its ports and their names, how many nets there are, their widths, and what each register, cell and output names.
+-- A netlist is well formed: its name, its ports and their names, how many nets there are, their widths, and what each
+-- register, cell and output names.
 pub record IsWellFormed (n : Netlist) : Type 0 where
   pub name : IsNamed (codes "m_") n.name
   pub reset : slice_get n.inputs 0 ≡ Some (record { name = codes "reset"; width = 1 })

@@ -26,8 +26,9 @@ op_value ws width (Select x hi lo) v = v x / 2 ^ lo % 2 ^ width
 abbrev pub FitsAll : List ℕ → (ℕ → ℕ) → Type 0
 FitsAll ws v = (net : ℕ) → net < length ws → v net < 2 ^ width_at ws net
 
--- Values of all nets in one cycle, where the inputs and then the registers have the given ones: each has its width, and each cell's equation holds.
-pub record IsCycle (n : Netlist) (given : List ℕ) (v : ℕ → ℕ) : Type 0 where
+-- These are the values of all nets in one cycle, where the inputs and then the registers have the given ones: each
+-- has its width, and each cell's equation holds.
+pub record AreValues (n : Netlist) (given : List ℕ) (v : ℕ → ℕ) : Type 0 where
   pub fits : FitsAll (widths n) v
   pub given_ones : (net : ℕ) → net < length given → v net ≡ slice_index given net
   pub cells : (k : ℕ) (c : Cell) → slice_get n.cells k ≡ Some c → v (sources n + k) ≡ op_value (widths n) c.width c.op v
@@ -45,7 +46,7 @@ abbrev pub IsRunFrom : Netlist → List ℕ → List (List ℕ) → List (ℕ �
 IsRunFrom n registers [] [] = Unit {0}
 IsRunFrom n registers [] (v ∷ vs) = ⊥
 IsRunFrom n registers (i ∷ is) [] = ⊥
-IsRunFrom n registers (i ∷ is) (v ∷ vs) = IsCycle n (i ++ registers) v × IsRunFrom n (next_registers n v) is vs
+IsRunFrom n registers (i ∷ is) (v ∷ vs) = AreValues n (i ++ registers) v × IsRunFrom n (next_registers n v) is vs
 
 -- The values of each cycle of a run that starts with all registers at 0.
 abbrev pub IsRun : Netlist → List (List ℕ) → List (ℕ → ℕ) → Type 0

@@ -11,6 +11,3 @@ pub use netlist::{
     Cell, CellList, CellOp, Netlist, OutPort, OutPorts, Port, Ports, Reg, Regs, WIDTH_LIMIT,
 };
 pub use rules::well_formed;
-
-#[cfg(test)]
-mod tests;

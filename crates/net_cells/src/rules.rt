@@ -12,7 +12,7 @@ use crate::marks::{MARKS, is_met, mark_of, meet};
 use crate::netlist::{Cell, CellOp, Netlist, OutPort, Port, Reg, WIDTH_LIMIT};
 use dip_sets::Name;
 
-/// Whether a number has at most so many bits.
+// Whether a number has at most so many bits.
 #[tactic(auto, using(crate::proofs::Nets::bits))]
 fn has_bits(value: u64, width: u32) -> bool
     ensures { IsTrue result ↔ (value < 2 ^ width) }
@@ -29,6 +29,7 @@ fn is_net(netlist: &Netlist, net: u64) -> bool
     netlist.width_of(net).is_some()
 }
 
+// Whether a net exists and has this width.
 fn has_width(netlist: &Netlist, net: u64, width: u32) -> bool
     ensures { IsTrue result ↔ HasWidth (widths netlist.now) net width }
 {
@@ -44,6 +45,7 @@ fn have_width(netlist: &Netlist, x: u64, y: u64, width: u32) -> bool
     has_width(netlist, x, width) && has_width(netlist, y, width)
 }
 
+// Whether two nets exist and have one width.
 fn have_one_width(netlist: &Netlist, x: u64, y: u64) -> bool
     ensures { IsTrue result ↔ HaveOneWidth (widths netlist.now) x y }
 {
@@ -53,6 +55,7 @@ fn have_one_width(netlist: &Netlist, x: u64, y: u64) -> bool
     }
 }
 
+// Whether the widths of two nets add up to that of a cell.
 fn is_joined(netlist: &Netlist, x: u64, y: u64, width: u32) -> bool
     ensures { IsTrue result ↔ IsCell (widths netlist.now) width (CellOp.Concat x y) }
 {
@@ -62,6 +65,7 @@ fn is_joined(netlist: &Netlist, x: u64, y: u64, width: u32) -> bool
     u64::from(high) + u64::from(low) == u64::from(width)
 }
 
+// Whether a net has the bits from `lo` to `hi`, as many as a cell has.
 fn is_part(netlist: &Netlist, net: u64, hi: u32, lo: u32, width: u32) -> bool
     ensures { IsTrue result
         ↔ IsCell (widths netlist.now) width (CellOp.Select net hi lo) }
@@ -72,6 +76,7 @@ fn is_part(netlist: &Netlist, net: u64, hi: u32, lo: u32, width: u32) -> bool
     }
 }
 
+// Whether a cell meets the rule of its operator, by the widths of what it reads.
 fn is_cell(netlist: &Netlist, cell: Cell) -> bool
     ensures { IsTrue result ↔ IsCell (widths netlist.now) cell.width cell.op }
 {
@@ -109,7 +114,7 @@ fn is_out_port(port: &OutPort) -> bool
     is_named(&port.name, b"p_")
 }
 
-/// Whether a name has at least 3 bytes and begins with these.
+// Whether a name has at least 3 bytes and begins with these.
 fn is_named(name: &Name, front: &[u8]) -> bool
     ensures { IsTrue result ↔ IsNamed front.now name.now }
 {
@@ -123,6 +128,7 @@ fn is_reset(port: &Port) -> bool
     port.width == 1 && port.name.bytes() == b"reset".as_slice()
 }
 
+// Whether the first input is `reset`, of one bit.
 fn has_reset(inputs: &[Port]) -> bool
     ensures { IsTrue result
         ↔ (slice_get inputs.now 0 ≡ Some (record { name = codes "reset"; width = 1 })) }
@@ -133,6 +139,7 @@ fn has_reset(inputs: &[Port]) -> bool
     }
 }
 
+// Whether all inputs behind the first have names of ports.
 fn has_inputs(inputs: &[Port]) -> bool
     ensures { IsTrue result
         ↔ All (λ (p : Port). IsNamed (codes "p_") p.name) (drop 1 inputs.now) }
@@ -143,6 +150,7 @@ fn has_inputs(inputs: &[Port]) -> bool
     }
 }
 
+// Whether all outputs have names of ports.
 fn has_outputs(outputs: &[OutPort]) -> bool
     ensures { IsTrue result
         ↔ All (λ (o : OutPort). IsNamed (codes "p_") o.name) outputs.now }
@@ -150,6 +158,7 @@ fn has_outputs(outputs: &[OutPort]) -> bool
     outputs.iter().all(is_out_port)
 }
 
+// Whether the next net of each register exists and has its width.
 fn has_regs(netlist: &Netlist) -> bool
     ensures { IsTrue result
         ↔ All (λ (r : Reg). HasWidth (widths netlist.now) r.next r.width) netlist.now.regs }
@@ -161,6 +170,7 @@ fn has_regs(netlist: &Netlist) -> bool
         .all(|reg| has_width(netlist, reg.next, reg.width))
 }
 
+// Whether each cell meets its rule.
 fn has_cells(netlist: &Netlist) -> bool
     ensures { IsTrue result
         ↔ All (λ (c : Cell). IsCell (widths netlist.now) c.width c.op) netlist.now.cells }
@@ -172,6 +182,7 @@ fn has_cells(netlist: &Netlist) -> bool
         .all(|cell| is_cell(netlist, *cell))
 }
 
+// Whether the net of each output exists.
 fn shows_nets(netlist: &Netlist) -> bool
     ensures { IsTrue result
         ↔ All (λ (o : OutPort). IsNet (widths netlist.now) o.net) netlist.now.outputs }
@@ -201,6 +212,7 @@ fn cells_have_widths(cells: &[Cell]) -> bool
     cells.iter().all(|cell| is_width(cell.width))
 }
 
+// Whether all nets have widths that a net may have: inputs, registers and cells.
 fn have_widths(netlist: &Netlist) -> bool
     ensures { IsTrue result ↔ All IsWidth (widths netlist.now) }
 {
@@ -213,7 +225,7 @@ fn have_widths(netlist: &Netlist) -> bool
     cells_have_widths(netlist.cells.as_slice())
 }
 
-/// Whether there are fewer than 2^64 nets.
+// Whether there are fewer than 2^64 nets.
 fn are_few(netlist: &Netlist) -> bool
     ensures { IsTrue result ↔ (length (widths netlist.now) < 2 ^ 64) }
 {
@@ -223,7 +235,7 @@ fn are_few(netlist: &Netlist) -> bool
     sources.is_some_and(|sources| sources.checked_add(cells).is_some())
 }
 
-/// The name of a port; the outputs come behind the inputs.
+// The name of a port; the outputs come behind the inputs.
 #[tactic(auto, using(crate::proofs::Nets::places))]
 fn name_at(netlist: &Netlist, place: usize) -> Option<&Name>
     ensures { option_copied result ≡ slice_get (port_names netlist.now) place }
@@ -247,7 +259,7 @@ fn output_name(outputs: &[OutPort], place: usize) -> Option<&Name>
     outputs.get(place).map(|port| &port.name)
 }
 
-/// Whether the port at a place has this name.
+// Whether the port at a place has this name.
 fn is_called(netlist: &Netlist, place: usize, name: &Name) -> bool
     ensures { IsTrue result ↔ (slice_get (port_names netlist.now) place ≡ Some name.now) }
 {
@@ -257,7 +269,7 @@ fn is_called(netlist: &Netlist, place: usize, name: &Name) -> bool
     }
 }
 
-/// Whether no port at an earlier place has this name.
+// Whether no port at an earlier place has this name.
 fn is_new(netlist: &Netlist, place: usize, name: &Name) -> bool
     requires { place ≤ length (port_names netlist.now) }
     ensures { IsTrue result ↔ All (λ x. x ≢ name.now) (take place (port_names netlist.now)) }
@@ -270,7 +282,7 @@ fn is_new(netlist: &Netlist, place: usize, name: &Name) -> bool
     true
 }
 
-/// Whether no port at an earlier place has the name of the port at this one.
+// Whether no port at an earlier place has the name of the port at this one.
 fn is_first(netlist: &Netlist, place: usize) -> bool
     requires { place < length (port_names netlist.now) }
     ensures { IsTrue result ↔ IsFirst (port_names netlist.now) place }
@@ -281,7 +293,7 @@ fn is_first(netlist: &Netlist, place: usize) -> bool
     }
 }
 
-/// The mark of the name at a place.
+// The mark of the name at a place.
 fn mark_at(netlist: &Netlist, place: usize) -> usize
     ensures value { result ≡ marks.mark_of (unwrap_or (slice_get (port_names netlist.now) place) []) }
     ensures few { result < MARKS }
@@ -292,7 +304,7 @@ fn mark_at(netlist: &Netlist, place: usize) -> usize
     }
 }
 
-/// The same as `is_first`, where the marks of all earlier names were met.
+// The same as `is_first`, where the marks of all earlier names were met.
 #[tactic(auto, using(crate::proofs::Marked::unmet_first))]
 fn is_first_by(netlist: &Netlist, place: usize, met: &[bool]) -> bool
     requires place { place < length (port_names netlist.now) }
@@ -306,8 +318,8 @@ fn is_first_by(netlist: &Netlist, place: usize, met: &[bool]) -> bool
     }
 }
 
-/// Whether no two ports have one name. It takes no memory but a table of marks: a name is compared with all
-/// before it only where its mark was met.
+// Whether no two ports have one name. It takes no memory but a table of marks: a name is compared with all
+// before it only where its mark was met.
 fn names_differ(netlist: &Netlist) -> bool
     ensures { IsTrue result ↔ AllPairs (λ x y. x ≢ y) (port_names netlist.now) }
 {

@@ -7,7 +7,7 @@ use Rattle.std.proofs.lemmas.Option.{slice_get_within}
 use Rattle.net_cells.specs.declared.netlist.Netlist.{Netlist}
 use Rattle.net_cells.specs.Rules.{sources}
 use Rattle.net_cells.specs.Loops.{Reads, IsPath, DependsOn, HasNoLoop}
-use Rattle.sim_engine.specs.Orders.{IsKnown, IsReady, AreInOrder, IsOrder}
+use Rattle.sim_engine.specs.Orders.{IsKnown, IsReady, AreReadyInTurn, IsOrder}
 
 -- all that the cells read is known
 abbrev pub IsClosed : Netlist → List ℕ → Type 0
@@ -59,7 +59,7 @@ no_loop_more n done place c a r q k d = elim (Contains-push_cases done place q k
       a place (subst (λ x. Contains done x) f h) s
 ]
 
-no_loop_all : (n : Netlist) (done rest : List ℕ) → IsClosed n done → HasNoLoopAt n done → AreInOrder n done rest → HasNoLoopAt n (done ++ rest)
+no_loop_all : (n : Netlist) (done rest : List ℕ) → IsClosed n done → HasNoLoopAt n done → AreReadyInTurn n done rest → HasNoLoopAt n (done ++ rest)
 no_loop_all n done [] c a o = subst (λ (xs : List ℕ). HasNoLoopAt n xs) (sym (append-nil done)) a
 no_loop_all n done (place ∷ places) c a o =
     subst (λ (xs : List ℕ). HasNoLoopAt n xs) (append_assoc done (place ∷ []) places)

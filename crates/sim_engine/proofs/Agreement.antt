@@ -8,12 +8,12 @@ use Rattle.std.proofs.lemmas.Option.{slice_get-get_or}
 use Rattle.net_cells.specs.declared.netlist.CellOp.TheVariants as op
 use Rattle.net_cells.specs.declared.netlist.Netlist.{Netlist}
 use Rattle.net_cells.specs.Rules.{IsWellFormed, IsWidth, sources, widths, width_at}
-use Rattle.net_cells.specs.Values.{IsCycle}
+use Rattle.net_cells.specs.Values.{AreValues}
 use Rattle.net_cells.specs.Loops.{operands}
 use Rattle.net_cells.proofs.Operators.{every}
 use Rattle.net_cells.proofs.Cycles.{cell_rule, cell_width, many}
 use Rattle.sim_engine.specs.Steps.{evaluated, step_value}
-use Rattle.sim_engine.specs.Orders.{IsKnown, IsReady, AreInOrder, cell_at, step_at}
+use Rattle.sim_engine.specs.Orders.{IsKnown, IsReady, AreReadyInTurn, cell_at, step_at}
 use Rattle.sim_engine.proofs.StepValues.{step_right}
 
 -- the values of all known nets are those of an assignment
@@ -29,7 +29,7 @@ narrow n w place b =
     subst (λ x. x ≤ 64) (cell_width n place cell e) size.1
 
 -- the step of a cell gives its net the value that the assignment has
-step_agrees : (n : Netlist) → IsWellFormed n → (given : List ℕ) (v : ℕ → ℕ) → IsCycle n given v → (done values : List ℕ) (place : ℕ) → place < length n.cells → IsReady n done place → Agree n v done values → step_value (step_at n place) values ≡ v (sources n + place)
+step_agrees : (n : Netlist) → IsWellFormed n → (given : List ℕ) (v : ℕ → ℕ) → AreValues n given v → (done values : List ℕ) (place : ℕ) → place < length n.cells → IsReady n done place → Agree n v done values → step_value (step_at n place) values ≡ v (sources n + place)
 step_agrees n w given v c done values place b r a =
     let cell = cell_at n place in
     let e : slice_get n.cells place ≡ Some cell = slice_get-get_or n.cells place (record { width = 0; op = op.Const 0 }) b in
@@ -47,7 +47,7 @@ agree_more n v done values place x b e a net k = elim (cases_eq net (sources n +
   ])
 ]
 
-pub agree_all : (n : Netlist) → IsWellFormed n → (given : List ℕ) (v : ℕ → ℕ) → IsCycle n given v → (done values order : List ℕ) → length values ≡ length (widths n) → ((place : ℕ) → Contains order place → place < length n.cells) → AreInOrder n done order → Agree n v done values → Agree n v (done ++ order) (evaluated (map (step_at n) order) values)
+pub agree_all : (n : Netlist) → IsWellFormed n → (given : List ℕ) (v : ℕ → ℕ) → AreValues n given v → (done values order : List ℕ) → length values ≡ length (widths n) → ((place : ℕ) → Contains order place → place < length n.cells) → AreReadyInTurn n done order → Agree n v done values → Agree n v (done ++ order) (evaluated (map (step_at n) order) values)
 agree_all n w given v c done values [] l x o a = λ net k. a net (λ s. subst (λ (xs : List ℕ). Contains xs (net - sources n)) (append-nil done) (k s))
 agree_all n w given v c done values (place ∷ places) l x o a =
     let b : place < length n.cells = x place (0, omega arith, refl) in

@@ -8,7 +8,7 @@ use Rattle.net_cells.specs.Rules.{sources}
 use Rattle.net_cells.specs.Loops.{DependsOn, HasNoLoop}
 use Rattle.sim_engine.specs.declared.loops.Reach.{Reach}
 use Rattle.sim_engine.specs.Orders.{IsReady}
-use Rattle.sim_engine.specs.Reached.{Extends, Reaches, is_found}
+use Rattle.sim_engine.specs.Reached.{Extends, HasReached, is_found}
 use Rattle.sim_engine.specs.Running.{IsLeastLoop}
 use Rattle.sim_engine.proofs.Acyclic.{depends_cell}
 use Rattle.sim_engine.proofs.Reaching.{ready_extends, found_depends, depends_found}
@@ -40,9 +40,9 @@ ready_more n old new place next x e b r a k d l = elim (cases_eq k next) [
       subst (λ p. IsReady n new p) (sym (x.same k d m)) (ready_extends n old new (get_or old k d) x (a k d i))
 ]
 
-decided : (n : Netlist) (start : ℕ) (r : Reach) → Reaches n start r → IsReady n r.found.items start → ((k d : ℕ) → k < length r.found.items → IsReady n r.found.items (get_or r.found.items k d)) → (b : Bool) → b ≡ is_found r.seen.items start → IsTrue b ↔ DependsOn n (sources n + start) (sources n + start)
+decided : (n : Netlist) (start : ℕ) (r : Reach) → HasReached n start r → IsReady n r.found.items start → ((k d : ℕ) → k < length r.found.items → IsReady n r.found.items (get_or r.found.items k d)) → (b : Bool) → b ≡ is_found r.seen.items start → IsTrue b ↔ DependsOn n (sources n + start) (sources n + start)
 decided n start r s i a true e = (λ _. found_depends n start r s (sym e), λ _. refl)
 decided n start r s i a false e = (λ t. absurd (false≢true t), λ d. absurd (false≢true (e ∙ depends_found n start r s i a d)))
 
-pub found_at_end : (n : Netlist) (start : ℕ) (r : Reach) (b : Bool) → Reaches n start r → start < length n.cells → IsReady n r.found.items start → ((k d : ℕ) → k < length r.found.items → IsReady n r.found.items (get_or r.found.items k d)) → b ≡ get_or r.seen.items start b → IsTrue b ↔ DependsOn n (sources n + start) (sources n + start)
+pub found_at_end : (n : Netlist) (start : ℕ) (r : Reach) (b : Bool) → HasReached n start r → start < length n.cells → IsReady n r.found.items start → ((k d : ℕ) → k < length r.found.items → IsReady n r.found.items (get_or r.found.items k d)) → b ≡ get_or r.seen.items start b → IsTrue b ↔ DependsOn n (sources n + start) (sources n + start)
 found_at_end n start r b s l i a e = decided n start r s i a b (e ∙ get_or_default r.seen.items start b false (omega (arith, s.long)))

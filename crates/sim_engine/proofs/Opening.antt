@@ -11,21 +11,21 @@ use Rattle.net_cells.specs.Values.{first_registers}
 use Rattle.net_cells.proofs.Cycles.{many}
 use Rattle.sim_engine.specs.declared.steps.Step.{Step}
 use Rattle.sim_engine.specs.Orders.{IsOrder, step_at}
-use Rattle.sim_engine.specs.Engines.{AreSteps, IsEngine, RegistersFit, places_of, registers_in}
+use Rattle.sim_engine.specs.Engines.{AreSteps, IsEngine, RegistersFit, step_places, registers_in}
 use Rattle.sim_engine.specs.Running.{Running, opened}
 
 abbrev running : Netlist → List ℕ → Running
 running n registers = record { netlist = n; registers = registers }
 
-same_places : (n : Netlist) (order : List ℕ) → places_of n (map (step_at n) order) ≡ order
+same_places : (n : Netlist) (order : List ℕ) → step_places n (map (step_at n) order) ≡ order
 same_places n [] = refl
 same_places n (p ∷ ps) =
     let e : sources n + p - sources n ≡ p = omega arith in
-    ap (λ x. x ∷ places_of n (map (step_at n) ps)) e ∙ ap (λ xs. p ∷ xs) (same_places n ps)
+    ap (λ x. x ∷ step_places n (map (step_at n) ps)) e ∙ ap (λ xs. p ∷ xs) (same_places n ps)
 
 steps_made : (n : Netlist) (order : List ℕ) (ss : List Step) → IsOrder n order → ss ≡ map (step_at n) order → AreSteps n ss
 steps_made n order ss o e =
-    let f : places_of n ss ≡ order = ap (places_of n) e ∙ same_places n order in
+    let f : step_places n ss ≡ order = ap (step_places n) e ∙ same_places n order in
     record { is_order = subst (IsOrder n) (sym f) o; each = e ∙ ap (map (step_at n)) (sym f) }
 
 zero_registers : (n : Netlist) → registers_in n (replicate (length (widths n)) 0) ≡ replicate (length n.regs) 0

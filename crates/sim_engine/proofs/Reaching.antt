@@ -18,7 +18,7 @@ use Rattle.sim_engine.specs.Orders.{IsKnown, IsReady, cell_at}
 use Rattle.sim_engine.specs.Steps.{three}
 use Rattle.sim_engine.proofs.Walking.{among_three, reads_waiting, waiting_exists, a_at}
 use Rattle.sim_engine.proofs.Acyclic.{known_depends}
-use Rattle.sim_engine.specs.Reached.{IsReach, Reaches, Finds, Extends, MayFind, is_found, unseen}
+use Rattle.sim_engine.specs.Reached.{IsReach, HasReached, Finds, Extends, MayFind, is_found, unseen}
 
 pub finding : (n : Netlist) (start : ℕ) (seen : List Bool) (found : List ℕ) (place : ℕ) → IsReach n start seen found → place < length n.cells → DependsOn n (sources n + start) (sources n + place) → is_found seen place ≡ false → IsReach n start (set seen place true) (found ++ place ∷ [])
 finding n start seen found place s b d f = record {
@@ -61,7 +61,7 @@ pub ready_extends : (n : Netlist) (xs ys : List ℕ) (place : ℕ) → Extends x
 ready_extends n xs ys place h r = λ cell e net o. known_extends n xs ys net h (r cell e net o)
 
 -- a cell is found for the first time
-pub finds_new : (n : Netlist) (start : ℕ) (old new : Reach) (place : ℕ) → Reaches n start old → place < length n.cells → DependsOn n (sources n + start) (sources n + place) → is_found old.seen.items place ≡ false → new.seen.items ≡ set old.seen.items place true → new.found.items ≡ old.found.items ++ place ∷ [] → Finds n start old new place
+pub finds_new : (n : Netlist) (start : ℕ) (old new : Reach) (place : ℕ) → HasReached n start old → place < length n.cells → DependsOn n (sources n + start) (sources n + place) → is_found old.seen.items place ≡ false → new.seen.items ≡ set old.seen.items place true → new.found.items ≡ old.found.items ++ place ∷ [] → Finds n start old new place
 finds_new n start old new place s b d f e g = record {
   reaches = subst (λ x. IsReach n start x new.found.items) (sym e) (subst (λ x. IsReach n start (set old.seen.items place true) x) (sym g) (finding n start old.seen.items old.found.items place s b d f));
   extends = subst (λ (x : List ℕ). Extends old.found.items x) (sym g) (extends_push old.found.items place);
@@ -69,7 +69,7 @@ finds_new n start old new place s b d f e g = record {
 }
 
 -- a cell that was found before
-pub finds_old : (n : Netlist) (start : ℕ) (old : Reach) (place : ℕ) → Reaches n start old → is_found old.seen.items place ≡ true → Finds n start old old place
+pub finds_old : (n : Netlist) (start : ℕ) (old : Reach) (place : ℕ) → HasReached n start old → is_found old.seen.items place ≡ true → Finds n start old old place
 finds_old n start old place s e = record { reaches = s; extends = extends_same old.found.items; found = s.listed place e }
 
 -- the cells that a cell reads may be found, where that one was
@@ -94,14 +94,14 @@ ready_known n found place nets e a = λ cell f net o.
     let k = subst (λ (c : Cell). Contains (three c.op) net) (sym g) (among_three cell.op net o) in
     a_at (IsKnown n found) nets net a (subst (λ (xs : List ℕ). Contains xs net) (sym e) k)
 
-pub on_found : (n : Netlist) (start : ℕ) (r : Reach) (place k : ℕ) → Reaches n start r → k < length r.found.items → place ≡ get_or r.found.items k place → (place ≡ start) ⊎ DependsOn n (sources n + start) (sources n + place)
+pub on_found : (n : Netlist) (start : ℕ) (r : Reach) (place k : ℕ) → HasReached n start r → k < length r.found.items → place ≡ get_or r.found.items k place → (place ≡ start) ⊎ DependsOn n (sources n + start) (sources n + place)
 on_found n start r place k s b e = inr (a_at (λ p. DependsOn n (sources n + start) (sources n + p)) r.found.items place s.depends (k, b, sym e))
 
 -- at the end the cell at the start is found exactly where it depends on itself
-pub found_depends : (n : Netlist) (start : ℕ) (r : Reach) → Reaches n start r → is_found r.seen.items start ≡ true → DependsOn n (sources n + start) (sources n + start)
+pub found_depends : (n : Netlist) (start : ℕ) (r : Reach) → HasReached n start r → is_found r.seen.items start ≡ true → DependsOn n (sources n + start) (sources n + start)
 found_depends n start r s e = a_at (λ p. DependsOn n (sources n + start) (sources n + p)) r.found.items start s.depends (s.listed start e)
 
-pub depends_found : (n : Netlist) (start : ℕ) (r : Reach) → Reaches n start r → IsReady n r.found.items start → ((k d : ℕ) → k < length r.found.items → IsReady n r.found.items (get_or r.found.items k d)) → DependsOn n (sources n + start) (sources n + start) → is_found r.seen.items start ≡ true
+pub depends_found : (n : Netlist) (start : ℕ) (r : Reach) → HasReached n start r → IsReady n r.found.items start → ((k d : ℕ) → k < length r.found.items → IsReady n r.found.items (get_or r.found.items k d)) → DependsOn n (sources n + start) (sources n + start) → is_found r.seen.items start ≡ true
 depends_found n start r s i a d =
     let k = known_depends n r.found.items (λ p c. subst (λ x. IsReady n r.found.items x) c.2 (a c.0 p c.1)) start (sources n + start) i d (omega arith) in
     let e : sources n + start - sources n ≡ start = omega arith in

@@ -11,15 +11,15 @@ use Rattle.net_cells.specs.declared.netlist.OutPort.{OutPort}
 use Rattle.net_cells.specs.declared.netlist.Port.{Port}
 use Rattle.net_cells.specs.declared.netlist.Reg.{Reg}
 use Rattle.net_cells.specs.Rules.{IsWellFormed, sources, widths, width_at}
-use Rattle.net_cells.specs.Values.{IsCycle, next_registers}
+use Rattle.net_cells.specs.Values.{AreValues, next_registers}
 use Rattle.net_cells.specs.Loops.{AreGiven, HasOneCycle}
 use Rattle.net_cells.proofs.Operators.{exist}
 use Rattle.net_cells.proofs.Cycles.{many, cell_rule, one_cycle}
 use Rattle.sim_engine.specs.declared.steps.Step.{Step}
 use Rattle.sim_engine.specs.Steps.{IsAmong, evaluated, step_value}
 use Rattle.sim_engine.specs.Orders.{cell_at, step_at}
-use Rattle.sim_engine.specs.Engines.{AreSteps, IsEngine, RegistersFit, places_of, registers_in}
-use Rattle.sim_engine.specs.Running.{AreInputs, IsStep, Running}
+use Rattle.sim_engine.specs.Engines.{AreSteps, IsEngine, RegistersFit, step_places, registers_in}
+use Rattle.sim_engine.specs.Running.{AreInputs, RunsCycle, Running}
 use Rattle.sim_engine.proofs.Agreement.{Agree, agree_all}
 use Rattle.sim_engine.proofs.Acyclic.{no_loop}
 use Rattle.sim_engine.proofs.Walking.{sources_some, three_below}
@@ -38,7 +38,7 @@ pub among : (n : Netlist) → IsWellFormed n → (ss : List Step) (many_values :
 among n w ss many_values e a =
     subst (λ m. All (IsAmong m) ss) (sym e)
     (subst (λ (xs : List Step). All (IsAmong (length (widths n))) xs) (sym a.each)
-    (All-map (IsAmong (length (widths n))) (step_at n) (places_of n ss) (λ k d b. step_among n w (get_or (places_of n ss) k d) (a.is_order.exist k d b))))
+    (All-map (IsAmong (length (widths n))) (step_at n) (step_places n ss) (λ k d b. step_among n w (get_or (step_places n ss) k d) (a.is_order.exist k d b))))
 
 pub length-evaluated : (ss : List Step) (values : List ℕ) → length (evaluated ss values) ≡ length values
 length-evaluated [] values = refl
@@ -101,7 +101,7 @@ same_given inputs values i r net e b = elim (cases_lt net i) [
 ]
 
 -- after the steps each net has its value
-pub all_values : (n : Netlist) → IsWellFormed n → (ss : List Step) → AreSteps n ss → (inputs values : List ℕ) → AreInputs n inputs → length values ≡ length (widths n) → (v : ℕ → ℕ) → IsCycle n (inputs ++ registers_in n values) v → (net : ℕ) → net < length (widths n) → get_or (evaluated ss (inputs ++ drop (length n.inputs) values)) net 0 ≡ v net
+pub all_values : (n : Netlist) → IsWellFormed n → (ss : List Step) → AreSteps n ss → (inputs values : List ℕ) → AreInputs n inputs → length values ≡ length (widths n) → (v : ℕ → ℕ) → AreValues n (inputs ++ registers_in n values) v → (net : ℕ) → net < length (widths n) → get_or (evaluated ss (inputs ++ drop (length n.inputs) values)) net 0 ≡ v net
 all_values n w ss a inputs values i l v c net b =
     let start : Agree n v [] (inputs ++ drop (length n.inputs) values) = λ m k. elim (cases_lt m (sources n)) [
       | inl s ↦
@@ -111,7 +111,7 @@ all_values n w ss a inputs values i l v c net b =
     ] in
     let long : length (inputs ++ drop (length n.inputs) values) ≡ length (widths n) = let e = i.long in omega (arith, length-append inputs (drop (length n.inputs) values), length-drop (length n.inputs) values, many n) in
     let o = a.is_order in
-    let all = agree_all n w (inputs ++ registers_in n values) v c [] (inputs ++ drop (length n.inputs) values) (places_of n ss) long (λ p q. subst (λ x. x < length n.cells) q.2 (o.exist q.0 p q.1)) o.ordered start in
+    let all = agree_all n w (inputs ++ registers_in n values) v c [] (inputs ++ drop (length n.inputs) values) (step_places n ss) long (λ p q. subst (λ x. x < length n.cells) q.2 (o.exist q.0 p q.1)) o.ordered start in
     subst (λ (xs : List Step). get_or (evaluated xs (inputs ++ drop (length n.inputs) values)) net 0 ≡ v net) (sym a.each)
     (all net (λ s. o.every (net - sources n) (omega (arith, many n))))
 
@@ -138,7 +138,7 @@ written_long n values kept l e =
     let r = drop (length n.inputs + length kept) values in
     omega (arith, length-append (take (length n.inputs) values ++ kept) r, length-append (take (length n.inputs) values) kept, length-drop (length n.inputs + length kept) values, many n)
 
-next_fit : (n : Netlist) → IsWellFormed n → (given : List ℕ) (v : ℕ → ℕ) → IsCycle n given v → RegistersFit n (next_registers n v)
+next_fit : (n : Netlist) → IsWellFormed n → (given : List ℕ) (v : ℕ → ℕ) → AreValues n given v → RegistersFit n (next_registers n v)
 next_fit n w given v c k b =
     let d : Reg = record { width = 0; next = 0 } in
     let m : k < length n.regs = omega (arith, length-map n.regs (λ (r : Reg). v r.next)) in
@@ -156,7 +156,7 @@ pub record Cycled (n : Netlist) (ss : List Step) (nexts values inputs v0 v1 kept
 
 -- the only assignment of the cycle
 abbrev the_cycle : (n : Netlist) (ss : List Step) (outs nexts values room inputs : List ℕ) → IsEngine n ss outs nexts values room → AreInputs n inputs → HasOneCycle n (inputs ++ registers_in n values)
-the_cycle n ss outs nexts values room inputs e i = one_cycle n e.well (no_loop n (places_of n ss) e.steps.is_order) (inputs ++ registers_in n values) (are_given n inputs values i e.long e.fit)
+the_cycle n ss outs nexts values room inputs e i = one_cycle n e.well (no_loop n (step_places n ss) e.steps.is_order) (inputs ++ registers_in n values) (are_given n inputs values i e.long e.fit)
 
 -- after the steps each net has its value
 evaluated_right : (n : Netlist) (ss : List Step) (outs nexts values room inputs v0 v1 kept v2 : List ℕ) (e : IsEngine n ss outs nexts values room) (i : AreInputs n inputs) → Cycled n ss nexts values inputs v0 v1 kept v2 → (net : ℕ) → net < length (widths n) → get_or v1 net 0 ≡ (the_cycle n ss outs nexts values room inputs e i).value net
@@ -202,7 +202,7 @@ engine_after n ss outs nexts values room inputs v0 v1 kept v2 e i c =
     }
 
 -- and this was one cycle
-pub step_after : (n : Netlist) (ss : List Step) (outs nexts values room inputs v0 v1 kept v2 shown : List ℕ) (e : IsEngine n ss outs nexts values room) (i : AreInputs n inputs) → Cycled n ss nexts values inputs v0 v1 kept v2 → shown ≡ map (slice_index v1) outs → IsStep (record { netlist = n; registers = registers_in n values }) inputs shown (record { netlist = n; registers = registers_in n v2 })
+pub step_after : (n : Netlist) (ss : List Step) (outs nexts values room inputs v0 v1 kept v2 shown : List ℕ) (e : IsEngine n ss outs nexts values room) (i : AreInputs n inputs) → Cycled n ss nexts values inputs v0 v1 kept v2 → shown ≡ map (slice_index v1) outs → RunsCycle (record { netlist = n; registers = registers_in n values }) inputs shown (record { netlist = n; registers = registers_in n v2 })
 step_after n ss outs nexts values room inputs v0 v1 kept v2 shown e i c f =
     let one = the_cycle n ss outs nexts values room inputs e i in
     record {
@@ -215,8 +215,8 @@ step_after n ss outs nexts values room inputs v0 v1 kept v2 shown e i c f =
 pub inputs_of : (n : Netlist) (values inputs : List ℕ) (now : Running) → record { netlist = n; registers = registers_in n values } ≡ now → AreInputs now.netlist inputs → AreInputs n inputs
 inputs_of n values inputs now e i = subst (λ (r : Running). AreInputs r.netlist inputs) (sym e) i
 
-pub step_of : (n : Netlist) (values inputs shown : List ℕ) (now after : Running) → record { netlist = n; registers = registers_in n values } ≡ now → IsStep (record { netlist = n; registers = registers_in n values }) inputs shown after → IsStep now inputs shown after
-step_of n values inputs shown now after e s = subst (λ (r : Running). IsStep r inputs shown after) e s
+pub step_of : (n : Netlist) (values inputs shown : List ℕ) (now after : Running) → record { netlist = n; registers = registers_in n values } ≡ now → RunsCycle (record { netlist = n; registers = registers_in n values }) inputs shown after → RunsCycle now inputs shown after
+step_of n values inputs shown now after e s = subst (λ (r : Running). RunsCycle r inputs shown after) e s
 
 -- the calls of a cycle, each with what it answers
 pub cycled : (n : Netlist) (ss : List Step) (nexts values inputs v0 v1 kept v2 : List ℕ) (first : ℕ) (ss2 : List Step) (a4 a5 a6 : List ℕ) → v0 ≡ inputs ++ drop (0 + length inputs) values → ss2 ≡ ss → v1 ≡ evaluated ss2 v0 → a4 ≡ v1 → a5 ≡ nexts → kept ≡ map (slice_index a4) a5 → first ≡ length n.inputs → a6 ≡ kept → v2 ≡ take first v1 ++ a6 ++ drop (first + length a6) v1 → Cycled n ss nexts values inputs v0 v1 kept v2

@@ -21,8 +21,8 @@ use Rattle.sim_engine.specs.declared.order.Mark.{Mark}
 use Rattle.sim_engine.specs.declared.order.Walk.{Walk}
 use Rattle.sim_engine.specs.declared.order.Mark.TheVariants.{New, Open, Done}
 use Rattle.sim_engine.specs.Steps.{three}
-use Rattle.sim_engine.specs.Orders.{IsOrder, IsReady, cell_at, AreInOrder, HasLoop}
-use Rattle.sim_engine.specs.Walks.{IsWalk, IsDone, KeepsMarks, Goes, Stands, HasAllDone, IsIdle, WaitsFor, left, mark_at, weight}
+use Rattle.sim_engine.specs.Orders.{IsOrder, IsReady, cell_at, AreReadyInTurn, HasLoop}
+use Rattle.sim_engine.specs.Walks.{IsWalk, IsDone, KeepsMarks, Goes, Stands, HasAllDone, IsIdle, WaitsFor, left, mark_at, visits_left}
 
 -- what stands behind the operands where there are fewer than three
 record Padded (o : CellOp) : Type 0 where
@@ -57,7 +57,7 @@ is_operand o net b c =
       | inr k ↦ let e : net ≡ 0 = pick (λ x. x ≡ 0) p.zeros p.each net k.0 k.1 k.2 in absurd (omega arith)
     ]
 
-order_push : (n : Netlist) (done xs : List ℕ) (top : ℕ) → AreInOrder n done xs → IsReady n (done ++ xs) top → AreInOrder n done (xs ++ top ∷ [])
+order_push : (n : Netlist) (done xs : List ℕ) (top : ℕ) → AreReadyInTurn n done xs → IsReady n (done ++ xs) top → AreReadyInTurn n done (xs ++ top ∷ [])
 order_push n done [] top o r = (subst (λ (ys : List ℕ). IsReady n ys top) (append-nil done) r, tt)
 order_push n done (x ∷ xs) top o r = (o.0, order_push n (done ++ x ∷ []) xs top o.1 (subst (λ (ys : List ℕ). IsReady n ys top) (sym (append_assoc done (x ∷ []) xs)) r))
 
@@ -138,12 +138,12 @@ closing n marks order rest top s b r = record {
 
 left_opened : (marks : List Mark) (rest : List ℕ) (top place : ℕ) → place < length marks → mark_at marks place ≡ New → left (set marks place Open) (rest ++ top ∷ [] ++ place ∷ []) ≤ left marks rest
 left_opened marks rest top place b e =
-    let m = sum_by-set weight marks place Open New b in
-    let w : weight (get_or marks place New) ≡ 2 = ap weight e in
+    let m = sum_by-set visits_left marks place Open New b in
+    let w : visits_left (get_or marks place New) ≡ 2 = ap visits_left e in
     omega (arith, length_push (rest ++ top ∷ []) place, length_push rest top)
 
 left_closed : (marks : List Mark) (stack : List ℕ) (top : ℕ) → top < length marks → left (set marks top Done) stack ≤ left marks stack
-left_closed marks stack top b = let m = sum_by-set weight marks top Done New b in omega arith
+left_closed marks stack top b = let m = sum_by-set visits_left marks top Done New b in omega arith
 
 keeps_set : (marks : List Mark) (place : ℕ) (m : Mark) → place < length marks → m ≢ New → KeepsMarks marks (set marks place m)
 keeps_set marks place m b h = λ q k. elim (cases_eq q place) [

@@ -1,4 +1,4 @@
--- In which orders the cells can be evaluated.
+-- In which orders the cells can be evaluated. Only functions that aren't public cite it.
 use Rattle.std.specs.Prelude.{◌≡◌, ℕ, ◌+◌, ◌-◌, ◌<◌, ◌≤◌, List, [], ◌∷◌, ◌++◌, length, Some, slice_get, slice_index_or, Contains, All}
 use Rattle.net_cells.specs.declared.netlist.Cell.{Cell}
 use Rattle.net_cells.specs.declared.netlist.CellOp.TheVariants as op
@@ -14,17 +14,18 @@ IsKnown n done net = sources n ≤ net → Contains done (net - sources n)
 
 -- all nets that the cell at a place reads are known
 abbrev pub IsReady : Netlist → List ℕ → ℕ → Type 0
-IsReady n done place = (c : Cell) → slice_get n.cells place ≡ Some c → (net : ℕ) → Contains (operands c.op) net → IsKnown n done net
+IsReady n done place =
+    (c : Cell) → slice_get n.cells place ≡ Some c → (net : ℕ) → Contains (operands c.op) net → IsKnown n done net
 
 -- Behind the cells that are done, each of these reads only inputs, registers and cells before it.
-abbrev pub AreInOrder : Netlist → List ℕ → List ℕ → Type 0
-AreInOrder n done [] = Unit {0}
-AreInOrder n done (place ∷ places) = IsReady n done place × AreInOrder n (done ++ place ∷ []) places
+abbrev pub AreReadyInTurn : Netlist → List ℕ → List ℕ → Type 0
+AreReadyInTurn n done [] = Unit {0}
+AreReadyInTurn n done (place ∷ places) = IsReady n done place × AreReadyInTurn n (done ++ place ∷ []) places
 
 -- An order in which the cells can be evaluated: it has all of them, by their places in the netlist.
 pub record IsOrder (n : Netlist) (order : List ℕ) : Type 0 where
   pub exist : All (λ place. place < length n.cells) order
-  pub ordered : AreInOrder n [] order
+  pub ordered : AreReadyInTurn n [] order
   pub every : (place : ℕ) → place < length n.cells → Contains order place
 
 -- the cell at a place

@@ -1,4 +1,4 @@
--- The search for the cells that a cell depends on.
+-- The search for the cells that a cell depends on. Only functions that aren't public cite it.
 use Rattle.std.specs.Prelude.{◌≡◌, ℕ, ◌+◌, ◌-◌, ◌<◌, ◌≤◌, Bool, true, false, List, length, slice_index_or, Contains, All}
 use Rattle.std.specs.List.{sum_by}
 use Rattle.net_cells.specs.declared.netlist.Netlist.{Netlist}
@@ -6,6 +6,7 @@ use Rattle.net_cells.specs.Rules.{sources}
 use Rattle.net_cells.specs.Loops.{DependsOn}
 use Rattle.sim_engine.specs.declared.loops.Reach.{Reach}
 
+-- whether the cell at a place is found
 abbrev pub is_found : List Bool → ℕ → Bool
 is_found seen place = slice_index_or seen place false
 
@@ -29,8 +30,8 @@ pub record Extends (old new : List ℕ) : Type 0 where
   pub same : (k d : ℕ) → k < length old → slice_index_or new k d ≡ slice_index_or old k d
 
 -- the search stands so
-abbrev pub Reaches : Netlist → ℕ → Reach → Type 0
-Reaches n start r = IsReach n start r.seen.items r.found.items
+abbrev pub HasReached : Netlist → ℕ → Reach → Type 0
+HasReached n start r = IsReach n start r.seen.items r.found.items
 
 -- the net isn't a cell's, or it is one that the cell at the start depends on
 abbrev pub MayFind : Netlist → ℕ → ℕ → Type 0
@@ -38,6 +39,6 @@ MayFind n start net = sources n ≤ net → (net - sources n < length n.cells) �
 
 -- the search has come from one state to another, and the cell is found
 pub record Finds (n : Netlist) (start : ℕ) (old new : Reach) (place : ℕ) : Type 0 where
-  pub reaches : Reaches n start new
+  pub reaches : HasReached n start new
   pub extends : Extends old.found.items new.found.items
   pub found : Contains new.found.items place

@@ -23,8 +23,9 @@ pub record AreInputs (n : Netlist) (inputs : List ℕ) : Type 0 where
   pub long : length inputs ≡ length n.inputs
   pub fit : (k : ℕ) → k < length inputs → slice_index inputs k < 2 ^ width_at (widths n) k
 
--- One cycle: there is exactly one assignment for these inputs and what the registers hold. The outputs are its values of their nets, and afterwards the registers hold its values of their next nets.
-pub record IsStep (before : Running) (inputs shown : List ℕ) (after : Running) : Type 0 where
+-- One cycle: there is exactly one assignment for these inputs and what the registers hold. The outputs are its values
+-- of their nets, and afterwards the registers hold its values of their next nets.
+pub record RunsCycle (before : Running) (inputs shown : List ℕ) (after : Running) : Type 0 where
   pub netlist : after.netlist ≡ before.netlist
   pub one : HasOneCycle before.netlist (inputs ++ before.registers)
   pub outputs : shown ≡ map (λ (o : OutPort). one.value o.net) before.netlist.outputs

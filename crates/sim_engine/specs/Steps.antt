@@ -1,4 +1,5 @@
 -- What the engine computes: a cell as a step of the machine, and the values of all nets after some steps.
+-- Only functions that aren't public cite it.
 use Rattle.std.specs.Prelude.{ℕ, ◌+◌, ◌-◌, ◌*◌, ◌/◌, ◌%◌, ◌^◌, ◌<◌, nat_lt, ◌==◌, if◌then◌else◌, List, [], ◌∷◌, slice_index, slice_set, bit_and, bit_or, bit_xor}
 use Rattle.net_cells.specs.declared.netlist.CellOp.{CellOp}
 use Rattle.net_cells.specs.declared.netlist.CellOp.TheVariants as op
@@ -23,19 +24,19 @@ three (op.Concat x y) = x ∷ y ∷ 0 ∷ []
 three (op.Select x hi lo) = x ∷ 0 ∷ 0 ∷ []
 
 -- the operator alone
-abbrev pub kind_of : CellOp → Kind
-kind_of (op.Const value) = Const
-kind_of (op.Not x) = Not
-kind_of (op.And x y) = And
-kind_of (op.Or x y) = Or
-kind_of (op.Xor x y) = Xor
-kind_of (op.Add x y) = Add
-kind_of (op.Sub x y) = Sub
-kind_of (op.Eq x y) = Eq
-kind_of (op.Less x y) = Less
-kind_of (op.Mux c x y) = Mux
-kind_of (op.Concat x y) = Concat
-kind_of (op.Select x hi lo) = Select
+abbrev pub operator_kind : CellOp → Kind
+operator_kind (op.Const value) = Const
+operator_kind (op.Not x) = Not
+operator_kind (op.And x y) = And
+operator_kind (op.Or x y) = Or
+operator_kind (op.Xor x y) = Xor
+operator_kind (op.Add x y) = Add
+operator_kind (op.Sub x y) = Sub
+operator_kind (op.Eq x y) = Eq
+operator_kind (op.Less x y) = Less
+operator_kind (op.Mux c x y) = Mux
+operator_kind (op.Concat x y) = Concat
+operator_kind (op.Select x hi lo) = Select
 
 -- a constant's value, and the greatest number of so many bits for all other operators
 abbrev pub bits_of : ℕ → CellOp → ℕ
@@ -51,7 +52,7 @@ shift_of ws _ = 0
 -- the step that sets a net to the value of an operator of so many bits
 abbrev pub step_for : List ℕ → ℕ → ℕ → CellOp → Step
 step_for ws net width o = record {
-  kind = kind_of o;
+  kind = operator_kind o;
   shift = shift_of ws o;
   bits = bits_of width o;
   net = net;
@@ -75,8 +76,10 @@ kind_value Mux bits shift x y z = if x == 1 then y else z
 kind_value Concat bits shift x y z = bit_or (x * 2 ^ (shift % 64) % 2 ^ 64) y
 kind_value Select bits shift x y z = bit_and (x / 2 ^ (shift % 64)) bits
 
+-- the value that a step gives its net, from the values of all nets
 abbrev pub step_value : Step → List ℕ → ℕ
-step_value s values = kind_value s.kind s.bits s.shift (slice_index values s.x) (slice_index values s.y) (slice_index values s.z)
+step_value s values =
+    kind_value s.kind s.bits s.shift (slice_index values s.x) (slice_index values s.y) (slice_index values s.z)
 
 -- all nets of a step are among so many
 pub record IsAmong (nets : ℕ) (s : Step) : Type 0 where

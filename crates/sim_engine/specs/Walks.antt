@@ -1,4 +1,4 @@
--- The search for an order: depth first, along the nets that cells read.
+-- The search for an order: depth first, along the nets that cells read. Only functions that aren't public cite it.
 use Rattle.std.specs.Prelude.{◌≡◌, ◌≢◌, ℕ, ◌+◌, ◌-◌, ◌<◌, ◌≤◌, List, [], length, slice_index_or, Contains, All, AllPairs}
 use Rattle.std.specs.List.{sum_by}
 use Rattle.net_cells.specs.declared.netlist.Netlist.{Netlist}
@@ -7,7 +7,7 @@ use Rattle.net_cells.specs.Loops.{DependsOn, Reads}
 use Rattle.sim_engine.specs.declared.order.Mark.{Mark}
 use Rattle.sim_engine.specs.declared.order.Mark.TheVariants.{New, Open, Done}
 use Rattle.sim_engine.specs.declared.order.Walk.{Walk}
-use Rattle.sim_engine.specs.Orders.{AreInOrder, cell_at}
+use Rattle.sim_engine.specs.Orders.{AreReadyInTurn, cell_at}
 use Rattle.sim_engine.specs.Steps.{three}
 
 -- how far the search has come with the cell at a place
@@ -18,7 +18,8 @@ mark_at marks place = slice_index_or marks place New
 abbrev pub IsDone : ℕ → List Mark → ℕ → Type 0
 IsDone first marks net = first ≤ net → mark_at marks (net - first) ≡ Done
 
--- A state of the search. Each open cell stands on the stack, and depends on those behind it; each cell that is done stands in the order.
+-- A state of the search. Each open cell stands on the stack, and depends on those behind it; each cell that is done
+-- stands in the order.
 pub record IsWalk (n : Netlist) (marks : List Mark) (order stack : List ℕ) : Type 0 where
   pub long : length marks ≡ length n.cells
   pub placed : All (λ place. place < length n.cells) stack
@@ -26,20 +27,21 @@ pub record IsWalk (n : Netlist) (marks : List Mark) (order stack : List ℕ) : T
   pub finished : (place : ℕ) → mark_at marks place ≡ Done → Contains order place
   pub path : AllPairs (λ a b. DependsOn n (sources n + a) (sources n + b)) stack
   pub exist : All (λ place. place < length n.cells) order
-  pub ordered : AreInOrder n [] order
+  pub ordered : AreReadyInTurn n [] order
 
 -- no cell becomes new
 abbrev pub KeepsMarks : List Mark → List Mark → Type 0
 KeepsMarks old new = (place : ℕ) → mark_at old place ≢ New → mark_at new place ≢ New
 
-abbrev pub weight : Mark → ℕ
-weight New = 2
-weight Open = 0
-weight Done = 0
+-- how often the search still comes to a cell with this mark
+abbrev pub visits_left : Mark → ℕ
+visits_left New = 2
+visits_left Open = 0
+visits_left Done = 0
 
 -- what is left to do: a new cell is opened and closed, and an open one is closed
 abbrev pub left : List Mark → List ℕ → ℕ
-left marks stack = sum_by weight marks + length stack
+left marks stack = sum_by visits_left marks + length stack
 
 -- the search stands so
 abbrev pub Stands : Netlist → Walk → Type 0

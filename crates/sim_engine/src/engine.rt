@@ -4,7 +4,7 @@ ghost use Rattle.net_cells.specs.declared.netlist.Reg.{Reg};
 ghost use Rattle.net_cells.specs.Rules.{IsWellFormed};
 ghost use Rattle.net_cells.specs.Loops.{HasNoLoop};
 ghost use Rattle.sim_engine.specs.Orders.{HasLoop, IsOrder};
-ghost use Rattle.sim_engine.specs.Running.{AreInputs, IsFault, IsStep, opened};
+ghost use Rattle.sim_engine.specs.Running.{AreInputs, IsFault, RunsCycle, opened};
 
 use crate::fault::EngineFault;
 use crate::loops::least_loop;
@@ -43,28 +43,28 @@ impl Model for Engine {
         e.kept.items };
 }
 
-/// The nets of the outputs.
+// The nets of the outputs.
 fn shown_by(alloc: Global, ports: &[OutPort]) -> Result<Vec<u64>, Memory>
     ensures { IfOk result (λ nets. nets.items ≡ map (λ (o : OutPort). o.net) ports.now) }
 {
     Ok(ports.iter().map(|port| port.net).collect(alloc)?)
 }
 
-/// The next nets of the registers.
+// The next nets of the registers.
 fn nexts_of(alloc: Global, regs: &[Reg]) -> Result<Vec<u64>, Memory>
     ensures { IfOk result (λ nets. nets.items ≡ map (λ (r : Reg). r.next) regs.now) }
 {
     Ok(regs.iter().map(|reg| reg.next).collect(alloc)?)
 }
 
-/// So many zeros.
+// So many zeros.
 fn zeros(alloc: Global, count: usize) -> Result<Vec<u64>, Memory>
     ensures { IfOk result (λ list. list.items ≡ replicate count 0) }
 {
     Ok(vec![in alloc; 0; count]?)
 }
 
-/// The engine of a netlist whose cells are evaluated in this order.
+// The engine of a netlist whose cells are evaluated in this order.
 fn engine_of(alloc: Global, netlist: Netlist, order: &[u64]) -> Result<Engine, Memory>
     requires well { IsWellFormed netlist }
     requires order { IsOrder netlist order.now }
@@ -81,7 +81,7 @@ fn engine_of(alloc: Global, netlist: Netlist, order: &[u64]) -> Result<Engine, M
     })
 }
 
-/// Why a netlist with a net that depends on itself isn't opened.
+// Why a netlist with a net that depends on itself isn't opened.
 fn loop_in(alloc: Global, netlist: &Netlist) -> EngineFault
     requires well { IsWellFormed netlist.now }
     requires has { HasLoop netlist.now }
@@ -117,7 +117,7 @@ impl Engine {
     pub fn cycle(&mut self, inputs: &[u64], outputs: &mut [u64])
         requires inputs { AreInputs self.old.netlist inputs.now }
         requires outputs { length outputs.old ≡ length self.old.netlist.outputs }
-        ensures { IsStep self.old inputs.now outputs.new self.new }
+        ensures { RunsCycle self.old inputs.now outputs.new self.new }
     {
         let first = self.netlist.inputs.len();
         put(&mut self.values, 0, inputs);

@@ -11,6 +11,3 @@ mod values;
 
 pub use engine::Engine;
 pub use fault::EngineFault;
-
-#[cfg(test)]
-mod tests;

@@ -2,7 +2,7 @@ ghost use Rattle.std.specs.Prelude.{◌≡◌, ◌↔◌, ◌+◌, ◌-◌, ◌<
 ghost use Rattle.net_cells.specs.Rules.{IsWellFormed, sources};
 ghost use Rattle.net_cells.specs.Loops.{DependsOn, HasNoLoop};
 ghost use Rattle.sim_engine.specs.Orders.{IsKnown, IsReady};
-ghost use Rattle.sim_engine.specs.Reached.{Extends, Finds, MayFind, Reaches};
+ghost use Rattle.sim_engine.specs.Reached.{Extends, Finds, MayFind, HasReached};
 ghost use Rattle.sim_engine.specs.Running.{IsLeastLoop};
 
 use crate::order::{first_cell, op_at};
@@ -20,7 +20,7 @@ pub struct Reach {
     pub found: Vec<u64>,
 }
 
-/// A search that has found no cell.
+// A search that has found no cell.
 fn begin(alloc: Global, cells: usize) -> Result<Reach, Memory>
     ensures seen { IfOk result (λ r. r.seen.items ≡ replicate cells false) }
     ensures found { IfOk result (λ r. r.found.items ≡ []) }
@@ -31,7 +31,7 @@ fn begin(alloc: Global, cells: usize) -> Result<Reach, Memory>
     })
 }
 
-/// Adds a cell to those that are found.
+// Adds a cell to those that are found.
 fn put(reach: &mut Reach, place: u64) -> Result<(), Memory>
     requires { place < length reach.old.seen.items }
     ensures seen { IfOk result (λ _. reach.new.seen.items ≡ slice_set reach.old.seen.items place true) }
@@ -42,10 +42,10 @@ fn put(reach: &mut Reach, place: u64) -> Result<(), Memory>
     Ok(())
 }
 
-/// Finds a cell.
+// Finds a cell.
 #[tactic(auto, using(crate::proofs::Reaching::finds_old))]
 fn find_cell(netlist: &Netlist, reach: &mut Reach, start: u64, place: u64) -> Result<(), Memory>
-    requires reaches { Reaches netlist.now start reach.old }
+    requires reaches { HasReached netlist.now start reach.old }
     requires exists { place < length netlist.now.cells }
     requires depends { DependsOn netlist.now (sources netlist.now + start) (sources netlist.now + place) }
     ensures { IfOk result (λ _. Finds netlist.now start reach.old reach.new place) }
@@ -57,12 +57,12 @@ fn find_cell(netlist: &Netlist, reach: &mut Reach, start: u64, place: u64) -> Re
     Ok(())
 }
 
-/// Finds the cell of a net, if it is a cell's.
+// Finds the cell of a net, if it is a cell's.
 fn find(netlist: &Netlist, reach: &mut Reach, start: u64, net: u64) -> Result<(), Memory>
     requires well { IsWellFormed netlist.now }
-    requires reaches { Reaches netlist.now start reach.old }
+    requires reaches { HasReached netlist.now start reach.old }
     requires may { MayFind netlist.now start net }
-    ensures reaches { IfOk result (λ _. Reaches netlist.now start reach.new) }
+    ensures reaches { IfOk result (λ _. HasReached netlist.now start reach.new) }
     ensures extends { IfOk result (λ _. Extends reach.old.found.items reach.new.found.items) }
     ensures known { IfOk result (λ _. IsKnown netlist.now reach.new.found.items net) }
 {
@@ -73,12 +73,12 @@ fn find(netlist: &Netlist, reach: &mut Reach, start: u64, net: u64) -> Result<()
     find_cell(netlist, reach, start, net - first)
 }
 
-/// Finds the cells of some nets.
+// Finds the cells of some nets.
 fn find_all(netlist: &Netlist, reach: &mut Reach, start: u64, nets: &[u64]) -> Result<(), Memory>
     requires well { IsWellFormed netlist.now }
-    requires reaches { Reaches netlist.now start reach.old }
+    requires reaches { HasReached netlist.now start reach.old }
     requires may { All (MayFind netlist.now start) nets.now }
-    ensures reaches { IfOk result (λ _. Reaches netlist.now start reach.new) }
+    ensures reaches { IfOk result (λ _. HasReached netlist.now start reach.new) }
     ensures extends { IfOk result (λ _. Extends reach.old.found.items reach.new.found.items) }
     ensures known { IfOk result (λ _. All (IsKnown netlist.now reach.new.found.items) nets.now) }
 {
@@ -88,14 +88,14 @@ fn find_all(netlist: &Netlist, reach: &mut Reach, start: u64, nets: &[u64]) -> R
     Ok(())
 }
 
-/// Finds the cells that a cell reads.
+// Finds the cells that a cell reads.
 fn expand(netlist: &Netlist, reach: &mut Reach, start: u64, place: u64) -> Result<(), Memory>
     requires well { IsWellFormed netlist.now }
-    requires reaches { Reaches netlist.now start reach.old }
+    requires reaches { HasReached netlist.now start reach.old }
     requires exists { place < length netlist.now.cells }
     requires on { (place ≡ start)
         ⊎ DependsOn netlist.now (sources netlist.now + start) (sources netlist.now + place) }
-    ensures reaches { IfOk result (λ _. Reaches netlist.now start reach.new) }
+    ensures reaches { IfOk result (λ _. HasReached netlist.now start reach.new) }
     ensures extends { IfOk result (λ _. Extends reach.old.found.items reach.new.found.items) }
     ensures ready { IfOk result (λ _. IsReady netlist.now reach.new.found.items place) }
 {
@@ -104,7 +104,7 @@ fn expand(netlist: &Netlist, reach: &mut Reach, start: u64, place: u64) -> Resul
     Ok(())
 }
 
-/// Whether the net of the cell at a place depends on itself through cells.
+// Whether the net of the cell at a place depends on itself through cells.
 fn depends_on_itself(alloc: Global, netlist: &Netlist, start: u64) -> Result<bool, Memory>
     requires well { IsWellFormed netlist.now }
     requires exists { start < length netlist.now.cells }
@@ -122,8 +122,8 @@ fn depends_on_itself(alloc: Global, netlist: &Netlist, start: u64) -> Result<boo
     Ok(reach.seen[start as usize])
 }
 
-/// The least net that depends on itself through cells; `None` where there is none. Takes time that grows with
-/// the square of the number of cells.
+/// The least net that depends on itself through cells; `None` where there is none. Takes time that grows
+/// with the square of the number of cells.
 pub fn least_loop(alloc: Global, netlist: &Netlist) -> Result<Option<u64>, Memory>
     requires { IsWellFormed netlist.now }
     ensures { IfOk result (λ found. MatchOption found (HasNoLoop netlist.now) (IsLeastLoop netlist.now)) }

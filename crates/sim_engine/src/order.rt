@@ -57,6 +57,7 @@ pub fn op_at(netlist: &Netlist, place: u64) -> CellOp
     netlist.cells.as_slice()[place as usize].op
 }
 
+// Whether the search has not come to a cell.
 fn is_new(walk: &Walk, place: u64) -> bool
     requires { place < length walk.now.marks.items }
     ensures { IsTrue result ↔ (mark_at walk.now.marks.items place ≡ Mark.New) }
@@ -67,6 +68,7 @@ fn is_new(walk: &Walk, place: u64) -> bool
     }
 }
 
+// Whether a net is an input or a register, or the net of a cell that is done.
 fn is_done(first: u64, marks: &[Mark], net: u64) -> bool
     ensures { IsTrue result ↔ IsDone first marks.now net }
 {
@@ -79,7 +81,7 @@ fn is_done(first: u64, marks: &[Mark], net: u64) -> bool
     }
 }
 
-/// The first of some nets whose cell isn't done.
+// The first of some nets whose cell isn't done.
 fn first_waiting(first: u64, marks: &[Mark], nets: &[u64]) -> Option<u64>
     ensures { MatchOption result (All (IsDone first marks.now) nets.now)
         (λ net. Contains nets.now net × (IsDone first marks.now net → ⊥)) }
@@ -92,7 +94,7 @@ fn first_waiting(first: u64, marks: &[Mark], nets: &[u64]) -> Option<u64>
     None
 }
 
-/// The first cell that isn't done of those that a cell reads.
+// The first cell that isn't done of those that a cell reads.
 fn waits_for(netlist: &Netlist, walk: &Walk, top: u64) -> Option<u64>
     requires well { IsWellFormed netlist.now }
     requires exists { top < length netlist.now.cells }
@@ -106,7 +108,7 @@ fn waits_for(netlist: &Netlist, walk: &Walk, top: u64) -> Option<u64>
     }
 }
 
-/// Puts a cell on the stack.
+// Puts a cell on the stack.
 fn open(walk: &mut Walk, place: u64) -> Result<(), Memory>
     requires { place < length walk.old.marks.items }
     ensures marks { IfOk result (λ _. walk.new.marks.items ≡ slice_set walk.old.marks.items place Mark.Open) }
@@ -118,7 +120,7 @@ fn open(walk: &mut Walk, place: u64) -> Result<(), Memory>
     Ok(())
 }
 
-/// Puts a cell at the end of the order.
+// Puts a cell at the end of the order.
 fn close(walk: &mut Walk, place: u64) -> Result<(), Memory>
     requires { place < length walk.old.marks.items }
     ensures marks { IfOk result (λ _. walk.new.marks.items ≡ slice_set walk.old.marks.items place Mark.Done) }
@@ -130,7 +132,7 @@ fn close(walk: &mut Walk, place: u64) -> Result<(), Memory>
     Ok(())
 }
 
-/// Goes on with a cell that the one above the stack reads; false where it is open.
+// Goes on with a cell that the one above the stack reads; false where it is open.
 fn enter(netlist: &Netlist, walk: &mut Walk, top: u64, place: u64) -> Result<bool, Memory>
     requires stands { IsWalk netlist.now walk.old.marks.items walk.old.order.items
         (walk.old.stack.items ++ top ∷ []) }
@@ -145,7 +147,7 @@ fn enter(netlist: &Netlist, walk: &mut Walk, top: u64, place: u64) -> Result<boo
     Ok(true)
 }
 
-/// Takes the search one step further with the cell taken from its stack; false where that one is on a loop.
+// Takes the search one step further with the cell taken from its stack; false where that one is on a loop.
 fn advance(netlist: &Netlist, walk: &mut Walk, top: u64) -> Result<bool, Memory>
     requires well { IsWellFormed netlist.now }
     requires stands { IsWalk netlist.now walk.old.marks.items walk.old.order.items
@@ -161,7 +163,7 @@ fn advance(netlist: &Netlist, walk: &mut Walk, top: u64) -> Result<bool, Memory>
     }
 }
 
-/// Takes the search to its end; false where there is a loop.
+// Takes the search to its end; false where there is a loop.
 fn finish(netlist: &Netlist, walk: &mut Walk) -> Result<bool, Memory>
     requires well { IsWellFormed netlist.now }
     requires stands { Stands netlist.now walk.old }
@@ -176,7 +178,7 @@ fn finish(netlist: &Netlist, walk: &mut Walk) -> Result<bool, Memory>
     Ok(true)
 }
 
-/// Walks from a cell on; false where there is a loop.
+// Walks from a cell on; false where there is a loop.
 fn visit(netlist: &Netlist, walk: &mut Walk, root: u64) -> Result<bool, Memory>
     requires well { IsWellFormed netlist.now }
     requires stands { Stands netlist.now walk.old }
@@ -192,7 +194,7 @@ fn visit(netlist: &Netlist, walk: &mut Walk, root: u64) -> Result<bool, Memory>
     finish(netlist, walk)
 }
 
-/// A search that has found no cell.
+// A search that has found no cell.
 fn start(alloc: Global, cells: usize) -> Result<Walk, Memory>
     ensures marks { IfOk result (λ s. s.marks.items ≡ replicate cells Mark.New) }
     ensures order { IfOk result (λ s. s.order.items ≡ []) }
@@ -205,7 +207,7 @@ fn start(alloc: Global, cells: usize) -> Result<Walk, Memory>
     })
 }
 
-/// Puts a cell at the end of the order, if it is new and all that it reads is done.
+// Puts a cell at the end of the order, if it is new and all that it reads is done.
 fn offer(netlist: &Netlist, walk: &mut Walk, place: u64) -> Result<(), Memory>
     requires well { IsWellFormed netlist.now }
     requires stands { Stands netlist.now walk.old }
@@ -224,7 +226,7 @@ fn offer(netlist: &Netlist, walk: &mut Walk, place: u64) -> Result<(), Memory>
     }
 }
 
-/// Puts cells into the order, as far as they are ready in turn.
+// Puts cells into the order, as far as they are ready in turn.
 fn offer_all(netlist: &Netlist, walk: &mut Walk, places: &[u64]) -> Result<(), Memory>
     requires well { IsWellFormed netlist.now }
     requires idle { IsIdle netlist.now walk.old }
@@ -236,9 +238,9 @@ fn offer_all(netlist: &Netlist, walk: &mut Walk, places: &[u64]) -> Result<(), M
     Ok(())
 }
 
-/// An order in which the cells can be evaluated, by their places; `None` where a net depends on itself
-/// through cells. It begins with the given cells, as far as they are ready in turn. Takes time linear in the
-/// number of cells.
+// An order in which the cells can be evaluated, by their places; `None` where a net depends on itself
+// through cells. It begins with the given cells, as far as they are ready in turn. Takes time linear in the
+// number of cells.
 fn order_from(alloc: Global, netlist: &Netlist, places: &[u64]) -> Result<Option<Vec<u64>>, Memory>
     requires { IsWellFormed netlist.now }
     ensures { IfOk result (λ found. MatchOption found (HasLoop netlist.now)

@@ -3,7 +3,7 @@ ghost use Rattle.std.specs.List.{AllWithin};
 ghost use Rattle.net_cells.specs.Rules.{IsWellFormed, width_at, widths};
 ghost use Rattle.sim_engine.specs.Orders.{step_at};
 ghost use Rattle.sim_engine.specs.declared.steps.Step.{Step};
-ghost use Rattle.sim_engine.specs.Steps.{IsAmong, bits_of, evaluated, kind_of, kind_value, shift_of, step_for, step_value, three};
+ghost use Rattle.sim_engine.specs.Steps.{IsAmong, bits_of, evaluated, operator_kind, kind_value, shift_of, step_for, step_value, three};
 
 use crate::order::{cell_at, first_cell};
 use dip_lists::Memory;
@@ -66,8 +66,8 @@ pub fn three(op: CellOp) -> [u64; 3]
 }
 
 /// The operator alone.
-pub fn kind_of(op: CellOp) -> Kind
-    ensures { result ≡ kind_of op }
+pub fn operator_kind(op: CellOp) -> Kind
+    ensures { result ≡ operator_kind op }
 {
     match op {
         CellOp::Const(_) => Kind::Const,
@@ -85,7 +85,7 @@ pub fn kind_of(op: CellOp) -> Kind
     }
 }
 
-/// The greatest number of so many bits.
+// The greatest number of so many bits.
 fn mask(width: u32) -> u64
     requires { width ≤ 64 }
     ensures { result ≡ 2 ^ width - 1 }
@@ -97,6 +97,7 @@ fn mask(width: u32) -> u64
     }
 }
 
+// The value of a constant, and the greatest number of so many bits for another operator.
 fn bits_of(width: u32, op: CellOp) -> u64
     requires { width ≤ 64 }
     ensures { result ≡ bits_of width op }
@@ -114,6 +115,7 @@ fn width_of(netlist: &Netlist, net: u64) -> u32
     netlist.width_of(net).unwrap_or(0)
 }
 
+// By how many bits the operand of an operator is moved.
 fn shift_of(netlist: &Netlist, op: CellOp) -> u32
     ensures { result ≡ shift_of (widths netlist.now) op }
 {
@@ -131,7 +133,7 @@ pub fn step_for(netlist: &Netlist, net: u64, width: u32, op: CellOp) -> Step
 {
     let [x, y, z] = three(op);
     Step {
-        kind: kind_of(op),
+        kind: operator_kind(op),
         shift: shift_of(netlist, op),
         bits: bits_of(width, op),
         net,
@@ -141,6 +143,7 @@ pub fn step_for(netlist: &Netlist, net: u64, width: u32, op: CellOp) -> Step
     }
 }
 
+// The value of an operator, by the values of its operands.
 fn kind_value(kind: Kind, bits: u64, shift: u32, x: u64, y: u64, z: u64) -> u64
     ensures { result ≡ kind_value kind bits shift x y z }
 {
@@ -160,7 +163,7 @@ fn kind_value(kind: Kind, bits: u64, shift: u32, x: u64, y: u64, z: u64) -> u64
     }
 }
 
-/// The value of a step with this operator.
+// The value of a step with this operator.
 fn value_as(kind: Kind, step: &Step, values: &[u64]) -> u64
     requires kind { step.now.kind ≡ kind }
     requires among { IsAmong (length values.now) step.now }
@@ -172,7 +175,7 @@ fn value_as(kind: Kind, step: &Step, values: &[u64]) -> u64
     kind_value(kind, step.bits, step.shift, x, y, z)
 }
 
-/// Takes steps with one operator, one after another.
+// Takes steps with one operator, one after another.
 fn take_all(values: &mut [u64], kind: Kind, steps: &[Step])
     requires kinds { All (λ (s : Step). s.kind ≡ kind) steps.now }
     requires among { All (IsAmong (length values.old)) steps.now }
@@ -184,7 +187,7 @@ fn take_all(values: &mut [u64], kind: Kind, steps: &[Step])
     }
 }
 
-/// Takes steps with one operator, which each loop knows by itself.
+// Takes steps with one operator, which each loop knows by itself.
 fn take_run(values: &mut [u64], kind: Kind, steps: &[Step])
     requires kinds { All (λ (s : Step). s.kind ≡ kind) steps.now }
     requires among { All (IsAmong (length values.old)) steps.now }
@@ -206,7 +209,7 @@ fn take_run(values: &mut [u64], kind: Kind, steps: &[Step])
     }
 }
 
-/// Where the steps with the operator of the step at a place end.
+// Where the steps with the operator of the step at a place end.
 fn run_end(steps: &[Step], from: usize, kind: Kind) -> usize
     requires from { from < length steps.now }
     requires kind { AllWithin (λ (s : Step). s.kind ≡ kind) steps.now from (from + 1) }
@@ -222,7 +225,7 @@ fn run_end(steps: &[Step], from: usize, kind: Kind) -> usize
     steps.len()
 }
 
-/// Takes the steps one after another, as many at a time as have one operator.
+// Takes the steps one after another, as many at a time as have one operator.
 fn take_steps(values: &mut [u64], steps: &[Step])
     requires { All (IsAmong (length values.old)) steps.now }
     ensures { values.new ≡ evaluated steps.now values.old }
@@ -244,7 +247,7 @@ pub fn evaluate(values: &mut Vec<u64>, steps: &[Step])
     take_steps(values, steps);
 }
 
-/// The step of the cell at a place.
+// The step of the cell at a place.
 fn step_at(netlist: &Netlist, place: u64) -> Step
     requires well { IsWellFormed netlist.now }
     requires exists { place < length netlist.now.cells }

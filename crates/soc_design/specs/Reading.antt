@@ -1,5 +1,6 @@
 -- A design file: the checks of its bytes in their order, and the design that it states.
-use Rattle.std.specs.Prelude.{ℕ, ◌+◌, List, [], ◌∷◌, ◌++◌, length, take, codes, Bool, ◌&&◌, ◌||◌, not, cond, nat_le, Option, Some, None, is_none, unwrap_or, if◌then◌else◌}
+use Rattle.std.specs.Prelude.{ℕ, ◌+◌, List, [], ◌∷◌, ◌++◌, length, take, codes, Bool, ◌&&◌, ◌||◌, not, cond}
+use Rattle.std.specs.Prelude.{nat_le, Option, Some, None, is_none, unwrap_or, if◌then◌else◌}
 use Rattle.std.specs.Option.{option_and_then, option_map}
 use Rattle.std.specs.Str.{is_utf8}
 use Rattle.toml.specs.Parse.{parse_document}
@@ -13,29 +14,37 @@ use Rattle.dip_graph.specs.declared.design.NodeEntry.{NodeEntry}
 use Rattle.dip_graph.specs.declared.design.BindEntry.{BindEntry}
 use Rattle.soc_design.specs.declared.limits.Heading.{Heading}
 use Rattle.soc_design.specs.Shape.{top_has_shape, module_has_shape, node_has_shape, bind_has_shape}
-use Rattle.soc_design.specs.Stated.{all_of, heading_of, node_of, placed_node, name_at, names_at, module_at, modules_of, module_of, bind_of}
+use Rattle.soc_design.specs.Stated.{all_of, heading_of, node_of, placed_node, name_at, names_at}
+use Rattle.soc_design.specs.Stated.{module_at, modules_of, module_of, bind_of}
 
 -- ---- entries: the top table is entry 0, then come the modules, the nodes and the binds, each in file order
 
+-- the tables of the array under a key, none where there is no such array
 abbrev pub tables_in : List ℕ → Members → Items
 tables_in key ms = unwrap_or (tables_under key ms) no_items
 
+-- the tables of the modules
 abbrev pub modules_in : Members → Items
 modules_in = tables_in (codes "module")
 
+-- the tables of the nodes
 abbrev pub nodes_in : Members → Items
 nodes_in = tables_in (codes "node")
 
+-- the tables of the binds
 abbrev pub binds_in : Members → Items
 binds_in = tables_in (codes "bind")
 
+-- how many items there are
 abbrev pub count : Items → ℕ
 count no_items = 0
 count (item d ds) = 1 + count ds
 
+-- the entry of the first node: the top table and the modules stand before
 abbrev pub first_node : Members → ℕ
 first_node ms = 1 + count (modules_in ms)
 
+-- the entry of the first bind: the nodes stand before
 abbrev pub first_bind : Members → ℕ
 first_bind ms = first_node ms + count (nodes_in ms)
 
@@ -46,10 +55,12 @@ at_top fails = cond fails (0 ∷ []) []
 -- the entries of the items at which a test fails; the test sees an item's place among its kind and its data
 abbrev pub failing : (ℕ → Data → Bool) → ℕ → ℕ → Items → List ℕ
 failing fails place entry no_items = []
-failing fails place entry (item d ds) = cond (fails place d) (entry ∷ failing fails (place + 1) (entry + 1) ds) (failing fails (place + 1) (entry + 1) ds)
+failing fails place entry (item d ds) =
+    cond (fails place d) (entry ∷ failing fails (place + 1) (entry + 1) ds) (failing fails (place + 1) (entry + 1) ds)
 
 -- ---- check 2: the shape
 
+-- of the top table, and then of each module, node and bind
 abbrev pub shape_checks : Members → List Check
 shape_checks ms =
     check 2 (at_top (not (top_has_shape ms)))
@@ -60,12 +71,15 @@ shape_checks ms =
 
 -- ---- check 3: the limits
 
+-- the most modules besides the top one
 abbrev pub most_modules : ℕ
 most_modules = 255
 
+-- the most nodes
 abbrev pub most_nodes : ℕ
 most_nodes = 256
 
+-- the most binds
 abbrev pub most_binds : ℕ
 most_binds = 1024
 
@@ -81,15 +95,19 @@ is_past most place d = nat_le most place
 abbrev pub node_is_beyond : ℕ → Data → Bool
 node_is_beyond place d = is_past most_nodes place d || is_none (node_of d)
 
+-- the entries of the modules past the allowed number
 abbrev pub beyond_modules : Members → List ℕ
 beyond_modules ms = failing (is_past most_modules) 0 1 (modules_in ms)
 
+-- the entries of the nodes past the allowed number or with a number beyond its limits
 abbrev pub beyond_nodes : Members → List ℕ
 beyond_nodes ms = failing node_is_beyond 0 (first_node ms) (nodes_in ms)
 
+-- the entries of the binds past the allowed number
 abbrev pub beyond_binds : Members → List ℕ
 beyond_binds ms = failing (is_past most_binds) 0 (first_bind ms) (binds_in ms)
 
+-- of the top table, and then of each module, node and bind
 abbrev pub limit_checks : Members → List Check
 limit_checks ms =
     check 3 (at_top (top_is_beyond ms))
@@ -108,6 +126,7 @@ module_names top ms = top ∷ names_at (modules_in ms)
 abbrev pub node_names : Members → List (List ℕ)
 node_names ms = names_at (nodes_in ms)
 
+-- the design's name; where there is none, check 3 fails
 abbrev pub heading_name : Option Heading → List ℕ
 heading_name None = []
 heading_name (Some heading) = heading.name
@@ -124,18 +143,23 @@ node_is_unnamed modules names place d = is_named (take place names) (name_at d) 
 abbrev pub bind_is_unnamed : List (List ℕ) → ℕ → Data → Bool
 bind_is_unnamed names place d = is_none (bind_of names d)
 
+-- the entries of the misnamed ones among some modules
 abbrev pub unnamed_modules : List ℕ → Items → List ℕ
 unnamed_modules top ds = failing (module_is_unnamed top (names_at ds)) 0 1 ds
 
+-- the same of a file
 abbrev pub unnamed_modules_in : List ℕ → Members → List ℕ
 unnamed_modules_in top ms = unnamed_modules top (modules_in ms)
 
+-- the entries of the misnamed ones among some nodes, of which the first one has this entry
 abbrev pub unnamed_nodes : List (List ℕ) → ℕ → Items → List ℕ
 unnamed_nodes modules entry ds = failing (node_is_unnamed modules (names_at ds)) 0 entry ds
 
+-- the same of a file
 abbrev pub unnamed_nodes_in : List (List ℕ) → Members → List ℕ
 unnamed_nodes_in modules ms = unnamed_nodes modules (first_node ms) (nodes_in ms)
 
+-- the entries of the binds of a file that name a node that isn't there
 abbrev pub unnamed_binds_in : List (List ℕ) → Members → List ℕ
 unnamed_binds_in names ms = failing (bind_is_unnamed names) 0 (first_bind ms) (binds_in ms)
 
@@ -147,14 +171,17 @@ named_checks top ms =
     ∷ check 4 (unnamed_binds_in (node_names ms) ms)
     ∷ []
 
+-- check 4 in the design with the name that the file states
 abbrev pub name_checks : Members → List Check
 name_checks ms = named_checks (heading_name (heading_of ms)) ms
 
 -- ---- the file
 
+-- the checks 2 to 4 of a tree
 abbrev pub tree_checks : Members → List Check
 tree_checks ms = shape_checks ms ++ limit_checks ms ++ name_checks ms
 
+-- the most bytes of a design file
 abbrev pub most_bytes : ℕ
 most_bytes = 1048576
 
@@ -162,6 +189,7 @@ most_bytes = 1048576
 abbrev pub tree_of : List ℕ → Option Members
 tree_of bytes = if nat_le (length bytes) most_bytes && is_utf8 bytes then parse_document bytes else None
 
+-- the checks of a file with this tree; without one check 1 fails
 abbrev pub checks_of_tree : Option Members → List Check
 checks_of_tree None = check 1 (0 ∷ []) ∷ []
 checks_of_tree (Some ms) = tree_checks ms
@@ -170,12 +198,15 @@ checks_of_tree (Some ms) = tree_checks ms
 abbrev pub file_checks : List ℕ → List Check
 file_checks bytes = checks_of_tree (tree_of bytes)
 
+-- the top module and the modules that a tree states
 abbrev pub stated_modules : List ℕ → Members → Option (List ModuleEntry)
 stated_modules top ms = modules_of top (modules_in ms)
 
+-- the nodes that a tree states, in modules of these names
 abbrev pub stated_nodes : List (List ℕ) → Members → Option (List NodeEntry)
 stated_nodes modules ms = all_of (placed_node modules) (nodes_in ms)
 
+-- the binds that a tree states
 abbrev pub stated_binds : Members → Option (List BindEntry)
 stated_binds ms = all_of (bind_of (node_names ms)) (binds_in ms)
 
@@ -192,5 +223,6 @@ design_with ms heading =
 abbrev pub design_of : Members → Option Design
 design_of ms = option_and_then (design_with ms) (heading_of ms)
 
+-- the design that a file states
 abbrev pub stated_design : List ℕ → Option Design
 stated_design bytes = option_and_then design_of (tree_of bytes)

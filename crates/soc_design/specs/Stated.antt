@@ -1,5 +1,6 @@
 -- What the tables of a design file state, where their numbers are within the limits and their names are known.
-use Rattle.std.specs.Prelude.{ℕ, ℤ, ◌+◌, ◌-◌, ◌^◌, List, [], ◌∷◌, length, take, codes, Bool, ◌&&◌, ◌||◌, ◌==◌, cond, nat_le, bit_and, Option, Some, None, unwrap_or}
+use Rattle.std.specs.Prelude.{ℕ, ℤ, ◌+◌, ◌-◌, ◌^◌, List, [], ◌∷◌, length, take, codes, ◌&&◌, ◌==◌, cond}
+use Rattle.std.specs.Prelude.{nat_le, bit_and, Option, Some, None, unwrap_or}
 use Rattle.std.specs.Option.{option_and_then, option_map}
 use Rattle.std.specs.Str.{bytes_eq}
 use Rattle.toml.specs.Data.{Data, array, table, Items, no_items, item, Members, get_member}
@@ -15,16 +16,19 @@ use Rattle.dip_graph.specs.declared.design.NodeEntry.{NodeEntry}
 use Rattle.dip_graph.specs.declared.design.BindEntry.{BindEntry}
 use Rattle.dip_graph.specs.declared.design.Star.{Star}
 use Rattle.dip_graph.specs.declared.design.Star.TheVariants.{One, FromStar, ToStar}
-use Rattle.toml_shape.specs.Shapes.{integer_of, text_of, pair_of, number_within, table_under, text_under, name_under, number_under}
+use Rattle.tl_params.specs.Arguments.{is_width}
+use Rattle.toml_shape.specs.Shapes.{integer_of, text_of, pair_of, number_within}
+use Rattle.toml_shape.specs.Shapes.{table_under, text_under, name_under, number_under}
 use Rattle.dip_names.specs.Numbers.{is_named, number_of}
 use Rattle.soc_design.specs.declared.limits.Heading.{Heading}
 use Rattle.soc_design.specs.declared.nodes.LimitedNode.{LimitedNode}
 
--- what each item states, where each states something
+-- what an item states before what the rest does, where both state something
 abbrev pub before : {A : Type 0} → Option A → Option (List A) → Option (List A)
 before None rest = None
 before (Some x) rest = option_map (λ xs. x ∷ xs) rest
 
+-- what the items of an array state, where each states something
 abbrev pub all_of : {A : Type 0} → (Data → Option A) → Items → Option (List A)
 all_of states no_items = Some []
 all_of states (item d ds) = before (states d) (all_of states ds)
@@ -40,9 +44,11 @@ of_length least most xs = cond (nat_le least (length xs) && nat_le (length xs) m
 
 -- ---- sizes of transfers, in bytes
 
+-- the greatest transfer
 abbrev pub most_transfer : ℕ
 most_transfer = 256
 
+-- the greatest transfer of an atomic operation
 abbrev pub most_atomic : ℕ
 most_atomic = 8
 
@@ -50,27 +56,32 @@ most_atomic = 8
 abbrev pub stated_range : ℕ → ℕ → Option SizeRange
 stated_range least greatest = cond (is_size_pair least greatest) (Some (size_range least greatest)) None
 
+-- the sizes of a pair of numbers up to a greatest one
 abbrev pub sizes_of_pair : ℕ → ℤ × ℤ → Option SizeRange
 sizes_of_pair most p =
-    option_and_then (λ least. option_and_then (λ greatest. stated_range least greatest) (number_within 1 most p.1)) (number_within 1 most p.0)
+    option_and_then (λ least. option_and_then (λ greatest. stated_range least greatest) (number_within 1 most p.1))
+    (number_within 1 most p.0)
 
 -- the sizes of an operation, none where it is missing
-abbrev pub sizes_of : ℕ → Option Data → Option SizeRange
-sizes_of most None = Some no_sizes
-sizes_of most (Some d) = option_and_then (sizes_of_pair most) (pair_of d)
+abbrev pub stated_sizes : ℕ → Option Data → Option SizeRange
+stated_sizes most None = Some no_sizes
+stated_sizes most (Some d) = option_and_then (sizes_of_pair most) (pair_of d)
 
+-- the sizes of all operations
 abbrev pub operations_in : Members → Option Ops
 operations_in ms =
     option_and_then (λ get. option_and_then (λ put_full. option_and_then (λ put_partial.
     option_and_then (λ arithmetic. option_and_then (λ logical. option_map (λ intent.
-    record { get = get; put_full = put_full; put_partial = put_partial; arithmetic = arithmetic; logical = logical; intent = intent })
-    (sizes_of most_transfer (get_member (codes "intent") ms)))
-    (sizes_of most_atomic (get_member (codes "logical") ms)))
-    (sizes_of most_atomic (get_member (codes "arithmetic") ms)))
-    (sizes_of most_transfer (get_member (codes "put_partial") ms)))
-    (sizes_of most_transfer (get_member (codes "put_full") ms)))
-    (sizes_of most_transfer (get_member (codes "get") ms))
+    record { get = get; put_full = put_full; put_partial = put_partial;
+    arithmetic = arithmetic; logical = logical; intent = intent })
+    (stated_sizes most_transfer (get_member (codes "intent") ms)))
+    (stated_sizes most_atomic (get_member (codes "logical") ms)))
+    (stated_sizes most_atomic (get_member (codes "arithmetic") ms)))
+    (stated_sizes most_transfer (get_member (codes "put_partial") ms)))
+    (stated_sizes most_transfer (get_member (codes "put_full") ms)))
+    (stated_sizes most_transfer (get_member (codes "get") ms))
 
+-- the operations in the table under a key
 abbrev pub operations_under : List ℕ → Members → Option Ops
 operations_under key ms = option_and_then operations_in (table_under key ms)
 
@@ -79,22 +90,24 @@ operations_under key ms = option_and_then operations_in (table_under key ms)
 -- a base and a mask below 2^48 without a common bit
 abbrev pub set_of_pair : ℤ × ℤ → Option Pattern
 set_of_pair p =
-    option_and_then (λ base. option_and_then (λ mask. cond (bit_and base mask == 0) (Some (record { base = base; mask = mask })) None)
+    option_and_then (λ base. option_and_then (λ mask.
+    cond (bit_and base mask == 0) (Some (record { base = base; mask = mask })) None)
     (number_within 0 (2 ^ 48 - 1) p.1)) (number_within 0 (2 ^ 48 - 1) p.0)
 
+-- the address set of an array of two integers
 abbrev pub set_of : Data → Option Pattern
 set_of d = option_and_then set_of_pair (pair_of d)
 
 -- 1 to 16 sets
-abbrev pub sets_of : Data → Option (List Pattern)
-sets_of (array ds) = option_and_then (of_length 1 16) (all_of set_of ds)
-sets_of d = None
+abbrev pub stated_sets : Data → Option (List Pattern)
+stated_sets (array ds) = option_and_then (of_length 1 16) (all_of set_of ds)
+stated_sets d = None
 
 -- 1 to 64 ports
-abbrev pub ports_of : Option Data → Option (List (List Pattern))
-ports_of (Some (array ds)) = option_and_then (of_length 1 64) (all_of sets_of ds)
-ports_of (Some d) = None
-ports_of None = None
+abbrev pub stated_ports : Option Data → Option (List (List Pattern))
+stated_ports (Some (array ds)) = option_and_then (of_length 1 64) (all_of stated_sets ds)
+stated_ports (Some d) = None
+stated_ports None = None
 
 -- ---- nodes
 
@@ -103,9 +116,11 @@ abbrev pub port_count_of : Option Data → Option ℕ
 port_count_of None = Some 1
 port_count_of (Some d) = option_and_then (number_within 1 64) (integer_of d)
 
+-- the ports of a source
 abbrev pub port_count_in : Members → Option ℕ
 port_count_in ms = port_count_of (get_member (codes "ports") ms)
 
+-- a source
 abbrev pub source_of : Members → Option NodeKind
 source_of ms =
     option_and_then (λ ports. option_and_then (λ ids. option_map (λ emits. Source ports ids emits)
@@ -113,23 +128,23 @@ source_of ms =
     (number_under (codes "ids") 1 64 ms))
     (port_count_in ms)
 
--- a bus of 1, 2, 4 or 8 bytes
-abbrev pub is_beat : ℕ → Bool
-is_beat n = n == 1 || n == 2 || n == 4 || n == 8
+-- a number that a bus may have as its bytes
+abbrev pub stated_beat : ℕ → Option ℕ
+stated_beat n = cond (is_width n) (Some n) None
 
-abbrev pub beat_of : ℕ → Option ℕ
-beat_of n = cond (is_beat n) (Some n) None
-
+-- the bytes of a bus that stand under a key
 abbrev pub beat_under : List ℕ → Members → Option ℕ
-beat_under key ms = option_and_then beat_of (number_under key 1 8 ms)
+beat_under key ms = option_and_then stated_beat (number_under key 1 8 ms)
 
+-- a sink
 abbrev pub sink_of : Members → Option NodeKind
 sink_of ms =
     option_and_then (λ beat. option_and_then (λ ports. option_map (λ supports. Sink beat ports supports)
     (operations_under (codes "supports") ms))
-    (ports_of (get_member (codes "addresses") ms)))
+    (stated_ports (get_member (codes "addresses") ms)))
     (beat_under (codes "beat") ms)
 
+-- an argument: an integer below 2^32
 abbrev pub arg_of : Data → Option ℕ
 arg_of d = option_and_then (number_within 0 (2 ^ 32 - 1)) (integer_of d)
 
@@ -143,30 +158,37 @@ args_of (Some d) = None
 abbrev pub ruled_of : List ℕ → Members → Option NodeKind
 ruled_of kind ms = option_map (Ruled kind) (args_of (get_member (codes "args") ms))
 
+-- a node of a kind: a source, a sink or one that a rule is for
 abbrev pub named_kind_of : Option (List ℕ) → Members → Option NodeKind
 named_kind_of None ms = None
 named_kind_of (Some kind) ms =
-    cond (bytes_eq kind (codes "source")) (source_of ms) (cond (bytes_eq kind (codes "sink")) (sink_of ms) (ruled_of kind ms))
+    cond (bytes_eq kind (codes "source")) (source_of ms)
+    (cond (bytes_eq kind (codes "sink")) (sink_of ms) (ruled_of kind ms))
 
+-- what a node is
 abbrev pub kind_of : Members → Option NodeKind
 kind_of ms = named_kind_of (name_under (codes "kind") ms) ms
 
 -- a node, before its module is looked up
 abbrev pub node_of : Data → Option LimitedNode
 node_of (table ms) =
-    option_and_then (λ name. option_map (λ kind. record { name = name; kind = kind }) (kind_of ms)) (name_under (codes "name") ms)
+    option_and_then (λ name. option_map (λ kind. record { name = name; kind = kind }) (kind_of ms))
+    (name_under (codes "name") ms)
 node_of d = None
 
 -- ---- the top table
 
+-- the policy with a name
 abbrev pub policy_named : List ℕ → Option Policy
-policy_named text = cond (bytes_eq text (codes "lowest")) (Some Lowest) (cond (bytes_eq text (codes "round")) (Some Round) None)
+policy_named text =
+    cond (bytes_eq text (codes "lowest")) (Some Lowest) (cond (bytes_eq text (codes "round")) (Some Round) None)
 
 -- the lowest input first where it is missing
 abbrev pub policy_of : Option Data → Option Policy
 policy_of None = Some Lowest
 policy_of (Some d) = option_and_then policy_named (text_of d)
 
+-- the policy of a design
 abbrev pub policy_in : Members → Option Policy
 policy_in ms = policy_of (get_member (codes "policy") ms)
 
@@ -185,6 +207,7 @@ abbrev pub name_at : Data → List ℕ
 name_at (table ms) = unwrap_or (name_under (codes "name") ms) []
 name_at d = []
 
+-- the names of some tables in their order
 abbrev pub names_at : Items → List (List ℕ)
 names_at no_items = []
 names_at (item d ds) = name_at d ∷ names_at ds
@@ -196,6 +219,7 @@ abbrev pub module_named : List (List ℕ) → Option (List ℕ) → Option ℕ
 module_named modules None = Some 0
 module_named modules (Some name) = number_of modules name
 
+-- the number of the module that a key names
 abbrev pub module_under : List ℕ → List (List ℕ) → Members → Option ℕ
 module_under key modules ms = module_named modules (text_under key ms)
 
@@ -206,7 +230,8 @@ new_name names name = cond (is_named names name) None (Some name)
 -- a module after these: its name is a new one, and its parent one of these
 abbrev pub module_after : List (List ℕ) → Data → Option ModuleEntry
 module_after earlier (table ms) =
-    option_and_then (λ name. option_map (λ parent. record { name = name; parent = parent }) (module_under (codes "parent") earlier ms))
+    option_and_then (λ name. option_map (λ parent. record { name = name; parent = parent })
+    (module_under (codes "parent") earlier ms))
     (option_and_then (new_name earlier) (name_under (codes "name") ms))
 module_after earlier d = None
 
@@ -216,13 +241,15 @@ module_at top names place d = module_after (top ∷ take place names) d
 
 -- the top module, and those of some tables
 abbrev pub modules_of : List ℕ → Items → Option (List ModuleEntry)
-modules_of top ds = option_map (λ rest. record { name = top; parent = 0 } ∷ rest) (each_of (module_at top (names_at ds)) 0 ds)
+modules_of top ds =
+    option_map (λ rest. record { name = top; parent = 0 } ∷ rest) (each_of (module_at top (names_at ds)) 0 ds)
 
 -- the number of a node's module
 abbrev pub module_of : List (List ℕ) → Data → Option ℕ
 module_of modules (table ms) = module_under (codes "module") modules ms
 module_of modules d = None
 
+-- a node in the module with this number
 abbrev pub node_in : LimitedNode → ℕ → NodeEntry
 node_in node number = record { name = node.name; «module» = number; kind = node.kind }
 
@@ -232,24 +259,30 @@ placed_node modules d = option_and_then (λ node. option_map (node_in node) (mod
 
 -- ---- binds
 
+-- the number of the node that a key names
 abbrev pub node_under : List ℕ → List (List ℕ) → Members → Option ℕ
 node_under key names ms = option_and_then (number_of names) (name_under key ms)
 
+-- how many edges the sign of a bind makes
 abbrev pub star_named : List ℕ → Option Star
-star_named text = cond (bytes_eq text (codes ":=")) (Some One) (cond (bytes_eq text (codes ":=*")) (Some FromStar) (cond (bytes_eq text (codes ":*=")) (Some ToStar) None))
+star_named text =
+    cond (bytes_eq text (codes ":=")) (Some One)
+    (cond (bytes_eq text (codes ":=*")) (Some FromStar) (cond (bytes_eq text (codes ":*=")) (Some ToStar) None))
 
 -- one edge where it is missing
 abbrev pub star_of : Option Data → Option Star
 star_of None = Some One
 star_of (Some d) = option_and_then star_named (text_of d)
 
+-- how many edges a bind makes
 abbrev pub star_in : Members → Option Star
 star_in ms = star_of (get_member (codes "kind") ms)
 
 -- the numbers of the nodes that a bind names, and how many edges it makes
 abbrev pub bind_of : List (List ℕ) → Data → Option BindEntry
 bind_of names (table ms) =
-    option_and_then (λ to. option_and_then (λ from. option_map (λ star. record { to = to; from = from; star = star }) (star_in ms))
+    option_and_then (λ to. option_and_then (λ from. option_map (λ star. record { to = to; from = from; star = star })
+    (star_in ms))
     (node_under (codes "from") names ms))
     (node_under (codes "to") names ms)
 bind_of names d = None

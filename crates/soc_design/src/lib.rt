@@ -10,7 +10,4 @@ mod shape;
 mod tables;
 
 pub use laws::file_order_law;
-pub use read::read_design;
-
-#[cfg(test)]
-mod tests;
+pub use read::{MOST_BYTES, read_design};

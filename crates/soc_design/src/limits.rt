@@ -4,7 +4,9 @@ ghost use Rattle.dip_lists.specs.First.{first, first_failing};
 ghost use Rattle.soc_design.specs.Stated as spec;
 ghost use Rattle.soc_design.specs.Standing.{IsWithinLimits};
 ghost use Rattle.dip_graph.specs.Faults.{IsFaultAt, IsFaultOf};
-ghost use Rattle.soc_design.specs.Reading.{count, modules_in, nodes_in, binds_in, failing, at_top, top_is_beyond, is_past, node_is_beyond, beyond_modules, beyond_nodes, beyond_binds, limit_checks};
+ghost use Rattle.soc_design.specs.Reading.{count, modules_in, nodes_in, binds_in, failing, at_top};
+ghost use Rattle.soc_design.specs.Reading.{top_is_beyond, is_past, node_is_beyond, limit_checks};
+ghost use Rattle.soc_design.specs.Reading.{beyond_modules, beyond_nodes, beyond_binds};
 
 use crate::nodes::{LimitedNodes, node_of};
 use crate::tables::{first_bind, first_node, named, tables_in};
@@ -33,7 +35,7 @@ pub struct Heading {
 
 // The nodes that some tables state, the first of which is the entry `entry`. `Fault::Check` names check 3
 // and the first table past the allowed number, or with a number beyond its limits.
-fn stated_nodes(alloc: Global, nodes: &[Value], entry: u64) -> Result<LimitedNodes, Fault>
+fn limited_nodes(alloc: Global, nodes: &[Value], entry: u64) -> Result<LimitedNodes, Fault>
     requires { entry + length nodes.now < 2 ^ 64 }
     ensures ok { IfOk result (λ stated. spec.all_of spec.node_of (items_view nodes.now) ≡ Some stated) }
     ensures passes { IfOk result (λ _. first (failing node_is_beyond 0 entry (items_view nodes.now)) ≡ None) }
@@ -72,6 +74,7 @@ fn first_past(tables: &[Value], most: usize, entry: u64) -> Option<u64>
     }
 }
 
+// The policy of a design: the lowest input first where it is missing.
 fn policy_of(table: &Table) -> Option<Policy>
     ensures { result ≡ spec.policy_in (table_view table.now) }
 {
@@ -140,7 +143,7 @@ fn nodes_within(alloc: Global, table: &Table) -> Result<LimitedNodes, Fault>
     ensures passes { IfOk result (λ _. first (beyond_nodes (table_view table.now)) ≡ None) }
     ensures err { IfErr result (IsFaultAt 3 (beyond_nodes (table_view table.now))) }
 {
-    stated_nodes(alloc, tables_in(table, "node"), first_node(table))
+    limited_nodes(alloc, tables_in(table, "node"), first_node(table))
 }
 
 // A file without a module past the allowed number.

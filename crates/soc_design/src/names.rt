@@ -92,7 +92,7 @@ fn top_module(alloc: Global, top: &Name) -> Result<NamedModules, Memory>
 }
 
 // The top module and those that some tables state, the first of which is entry 1.
-fn stated_modules(alloc: Global, top: &Name, modules: &[Value]) -> Result<NamedModules, Fault>
+fn modules_of(alloc: Global, top: &Name, modules: &[Value]) -> Result<NamedModules, Fault>
     requires { length modules.now ≤ 255 }
     ensures names { IfOk result (λ stated. stated.names ≡ top.now ∷ spec.names_at (items_view modules.now)) }
     ensures tree { IfOk result (λ stated. spec.modules_of top.now (items_view modules.now) ≡ Some
@@ -136,7 +136,7 @@ fn module_of(modules: &Names, value: &Value) -> Option<u32>
 
 // The nodes of some tables in their modules, the first of which is the entry `entry`; `limited` is what the
 // tables state besides.
-fn stated_nodes(
+fn nodes_of(
     alloc: Global,
     modules: &Names,
     limited: LimitedNodes,
@@ -182,6 +182,7 @@ fn stated_nodes(
     Ok(NamedNodes { names, nodes })
 }
 
+// The number of the node that a key names.
 fn node_under(names: &Names, table: &Table, key: &str) -> Option<u32>
     requires { length names.now ≤ 256 }
     ensures value { result ≡ spec.node_under key.now names.now (table_view table.now) }
@@ -191,6 +192,7 @@ fn node_under(names: &Names, table: &Table, key: &str) -> Option<u32>
     Some(number as u32)
 }
 
+// How many edges the sign of a bind makes.
 fn star_named(text: &str) -> Option<Star>
     ensures { result ≡ spec.star_named text.now }
 {
@@ -202,6 +204,7 @@ fn star_named(text: &str) -> Option<Star>
     }
 }
 
+// How many edges a bind makes: one where nothing is said.
 fn star_in(table: &Table) -> Option<Star>
     ensures { result ≡ spec.star_in (table_view table.now) }
 {
@@ -212,6 +215,7 @@ fn star_in(table: &Table) -> Option<Star>
     }
 }
 
+// The bind that a table states between named nodes.
 fn bind_of(names: &Names, value: &Value) -> Option<BindEntry>
     requires { length names.now ≤ 256 }
     ensures value { result ≡ spec.bind_of names.now (view value.now) }
@@ -228,7 +232,7 @@ fn bind_of(names: &Names, value: &Value) -> Option<BindEntry>
 }
 
 // The binds that some tables state between named nodes, the first of which is the entry `entry`.
-fn stated_binds(alloc: Global, names: &Names, binds: &[Value], entry: u64) -> Result<Binds, Fault>
+fn binds_of(alloc: Global, names: &Names, binds: &[Value], entry: u64) -> Result<Binds, Fault>
     requires few { length names.now ≤ 256 }
     requires entries { entry + length binds.now < 2 ^ 64 }
     ensures ok { IfOk result (λ stated. spec.all_of (spec.bind_of names.now) (items_view binds.now) ≡ Some
@@ -255,7 +259,7 @@ fn stated_binds(alloc: Global, names: &Names, binds: &[Value], entry: u64) -> Re
 }
 
 // The modules of a file, in a design named `top`.
-fn modules_of(alloc: Global, top: &Name, table: &Table) -> Result<NamedModules, Fault>
+fn stated_modules(alloc: Global, top: &Name, table: &Table) -> Result<NamedModules, Fault>
     requires { reading.count (reading.modules_in (table_view table.now)) ≤ 255 }
     ensures names { IfOk result (λ modules. modules.names ≡ reading.module_names top.now
         (table_view table.now)) }
@@ -269,11 +273,11 @@ fn modules_of(alloc: Global, top: &Name, table: &Table) -> Result<NamedModules, 
         None) }
     ensures err { IfErr result (IsFaultAt 4 (reading.unnamed_modules_in top.now (table_view table.now))) }
 {
-    stated_modules(alloc, top, tables_in(table, "module"))
+    modules_of(alloc, top, tables_in(table, "module"))
 }
 
 // The nodes of a file in named modules; `limited` is what their tables state besides.
-fn nodes_of(
+fn stated_nodes(
     alloc: Global,
     modules: &Names,
     limited: LimitedNodes,
@@ -295,7 +299,7 @@ fn nodes_of(
     ensures err { IfErr result (IsFaultAt 4 (reading.unnamed_nodes_in modules.now
         (table_view table.now))) }
 {
-    stated_nodes(
+    nodes_of(
         alloc,
         modules,
         limited,
@@ -305,7 +309,7 @@ fn nodes_of(
 }
 
 // The binds of a file between named nodes.
-fn binds_of(alloc: Global, names: &Names, table: &Table) -> Result<Binds, Fault>
+fn stated_binds(alloc: Global, names: &Names, table: &Table) -> Result<Binds, Fault>
     requires { length names.now ≤ 256 }
     ensures ok { IfOk result (λ binds. spec.all_of (spec.bind_of names.now)
         (reading.binds_in (table_view table.now)) ≡ Some binds) }
@@ -317,7 +321,7 @@ fn binds_of(alloc: Global, names: &Names, table: &Table) -> Result<Binds, Fault>
         None) }
     ensures err { IfErr result (IsFaultAt 4 (reading.unnamed_binds_in names.now (table_view table.now))) }
 {
-    stated_binds(alloc, names, tables_in(table, "bind"), first_bind(table))
+    binds_of(alloc, names, tables_in(table, "bind"), first_bind(table))
 }
 
 /// The design of a file within the limits; `Fault::Check` names check 4 and the first module with an earlier
@@ -348,9 +352,9 @@ pub fn named_design(alloc: Global, file: LimitedFile, table: &Table) -> Result<D
 {
     let LimitedFile { heading, nodes } = file;
     let Heading { name, policy } = heading;
-    let modules = modules_of(alloc, &name, table)?;
-    let named = nodes_of(alloc, &modules.names, nodes, table)?;
-    let binds = binds_of(alloc, &named.names, table)?;
+    let modules = stated_modules(alloc, &name, table)?;
+    let named = stated_nodes(alloc, &modules.names, nodes, table)?;
+    let binds = stated_binds(alloc, &named.names, table)?;
     let NamedModules { tree, .. } = modules;
     let NamedNodes { nodes, .. } = named;
     Ok(Design {

@@ -2,6 +2,7 @@ ghost use Rattle.std.specs.Prelude.{◌≡◌, ◌≤◌, ◌^◌, length, IsTru
 ghost use Rattle.toml.specs.Data.{get_member};
 ghost use Rattle.toml.specs.View.{table_view, view, items_view};
 ghost use Rattle.dip_sets.specs.Names as names;
+ghost use Rattle.tl_params.specs.Arguments as arguments;
 ghost use Rattle.soc_design.specs.Stated as spec;
 ghost use Rattle.soc_design.specs.Standing.{IsUpTo64, IsWithinLimits};
 
@@ -10,7 +11,7 @@ use dip_graph::NodeKind;
 use dip_lists::{Few, Items, Memory};
 use dip_sets::{AddressSet, Name, Sizes};
 use std::alloc::Global;
-use tl_params::{AddressLists, Addresses, Args, Ops};
+use tl_params::{AddressLists, Addresses, Args, Ops, is_width};
 use toml::{Table, Value};
 use toml_shape::{name_under, number_under, number_within, pair, table_under, under};
 
@@ -29,6 +30,7 @@ const MOST_ARGS: usize = 8;
 /// The greatest argument.
 const MOST_ARG: u64 = (1 << 32) - 1;
 
+// The sizes of a pair of numbers up to `most`; `None` where it isn't two powers of two in order.
 fn sizes_of_pair(pair: (i64, i64), most: u64) -> Option<Sizes>
     requires { most ≤ 256 }
     ensures { result ≡ spec.sizes_of_pair most pair }
@@ -38,9 +40,10 @@ fn sizes_of_pair(pair: (i64, i64), most: u64) -> Option<Sizes>
     Sizes::new(least as u32, greatest as u32)
 }
 
+// The sizes that stand under a key, none where it is missing.
 fn sizes_under(table: &Table, key: &str, most: u64) -> Option<Sizes>
     requires { most ≤ 256 }
-    ensures { result ≡ spec.sizes_of most (get_member key.now (table_view table.now)) }
+    ensures { result ≡ spec.stated_sizes most (get_member key.now (table_view table.now)) }
 {
     match under(table, key) {
         None => Some(Sizes::none()),
@@ -48,6 +51,7 @@ fn sizes_under(table: &Table, key: &str, most: u64) -> Option<Sizes>
     }
 }
 
+// The sizes of all operations.
 fn operations_in(table: &Table) -> Option<Ops>
     ensures { result ≡ spec.operations_in (table_view table.now) }
 {
@@ -61,12 +65,14 @@ fn operations_in(table: &Table) -> Option<Ops>
     })
 }
 
+// The operations in the table under a key.
 fn operations_under(table: &Table, key: &str) -> Option<Ops>
     ensures { result ≡ spec.operations_under key.now (table_view table.now) }
 {
     operations_in(table_under(table, key)?)
 }
 
+// The address set of a base and a mask, each below 2^48 and without a common bit.
 fn set_of_pair(pair: (i64, i64)) -> Option<AddressSet>
     ensures { result ≡ spec.set_of_pair pair }
 {
@@ -75,12 +81,14 @@ fn set_of_pair(pair: (i64, i64)) -> Option<AddressSet>
     AddressSet::new(base, mask).ok()
 }
 
+// The address set of an array of two integers.
 fn set_of(value: &Value) -> Option<AddressSet>
     ensures { result ≡ spec.set_of (view value.now) }
 {
     set_of_pair(pair(value)?)
 }
 
+// The address sets of some items, where each states one.
 fn sets_in(alloc: Global, items: &[Value]) -> Result<Option<Addresses>, Memory>
     ensures { IfOk result (λ sets. sets ≡ spec.all_of spec.set_of (items_view items.now)) }
 {
@@ -94,8 +102,9 @@ fn sets_in(alloc: Global, items: &[Value]) -> Result<Option<Addresses>, Memory>
     Ok(Some(sets))
 }
 
-fn sets_of(alloc: Global, value: &Value) -> Result<Option<Addresses>, Memory>
-    ensures { IfOk result (λ sets. sets ≡ spec.sets_of (view value.now)) }
+// The 1 to 16 address sets of a port.
+fn stated_sets(alloc: Global, value: &Value) -> Result<Option<Addresses>, Memory>
+    ensures { IfOk result (λ sets. sets ≡ spec.stated_sets (view value.now)) }
 {
     let Value::Array(items) = value else {
         return Ok(None);
@@ -110,12 +119,13 @@ fn sets_of(alloc: Global, value: &Value) -> Result<Option<Addresses>, Memory>
     }
 }
 
+// The address sets of some ports, where each states some.
 fn ports_in(alloc: Global, items: &[Value]) -> Result<Option<AddressLists>, Memory>
-    ensures { IfOk result (λ ports. ports ≡ spec.all_of spec.sets_of (items_view items.now)) }
+    ensures { IfOk result (λ ports. ports ≡ spec.all_of spec.stated_sets (items_view items.now)) }
 {
     let mut ports = Items::new(alloc);
     for item in items {
-        let Some(sets) = sets_of(alloc, item)? else {
+        let Some(sets) = stated_sets(alloc, item)? else {
             return Ok(None);
         };
         ports.push(sets)?;
@@ -123,8 +133,9 @@ fn ports_in(alloc: Global, items: &[Value]) -> Result<Option<AddressLists>, Memo
     Ok(Some(ports))
 }
 
+// The 1 to 64 ports that stand under a key.
 fn ports_under(alloc: Global, table: &Table, key: &str) -> Result<Option<AddressLists>, Memory>
-    ensures value { IfOk result (λ ports. ports ≡ spec.ports_of (get_member key.now (table_view table.now))) }
+    ensures value { IfOk result (λ ports. ports ≡ spec.stated_ports (get_member key.now (table_view table.now))) }
     ensures within { IfOk result (λ found. IfSome found (λ ports. IsUpTo64 (length ports))) }
 {
     let Some(Value::Array(items)) = under(table, key) else {
@@ -140,6 +151,7 @@ fn ports_under(alloc: Global, table: &Table, key: &str) -> Result<Option<Address
     }
 }
 
+// How many ports a source has: 1 to 64, and 1 where they are missing.
 fn port_count(table: &Table) -> Option<u64>
     ensures value { result ≡ spec.port_count_in (table_view table.now) }
     ensures within { IfSome result IsUpTo64 }
@@ -150,6 +162,7 @@ fn port_count(table: &Table) -> Option<u64>
     }
 }
 
+// A source.
 fn source_of(table: &Table) -> Option<NodeKind>
     ensures value { result ≡ spec.source_of (table_view table.now) }
     ensures within { IfSome result IsWithinLimits }
@@ -164,19 +177,21 @@ fn source_of(table: &Table) -> Option<NodeKind>
     })
 }
 
+// The bytes of a bus that stand under a key.
 fn beat_under(table: &Table, key: &str) -> Option<u64>
     ensures value { result ≡ spec.beat_under key.now (table_view table.now) }
     ensures fits { IfSome result (λ beat. beat ≤ 8) }
-    ensures within { IfSome result (λ beat. IsTrue (spec.is_beat beat)) }
+    ensures within { IfSome result (λ beat. IsTrue (arguments.is_width beat)) }
 {
     let beat = number_under(table, key, 1, 8)?;
-    if matches!(beat, 1 | 2 | 4 | 8) {
+    if is_width(beat as u32) {
         Some(beat)
     } else {
         None
     }
 }
 
+// A sink.
 fn sink_of(alloc: Global, table: &Table) -> Result<Option<NodeKind>, Memory>
     ensures value { IfOk result (λ kind. kind ≡ spec.sink_of (table_view table.now)) }
     ensures within { IfOk result (λ kind. IfSome kind IsWithinLimits) }
@@ -197,6 +212,7 @@ fn sink_of(alloc: Global, table: &Table) -> Result<Option<NodeKind>, Memory>
     }))
 }
 
+// An argument: an integer below 2^32.
 fn arg_of(value: &Value) -> Option<u32>
     ensures { result ≡ spec.arg_of (view value.now) }
 {
@@ -206,6 +222,7 @@ fn arg_of(value: &Value) -> Option<u32>
     }
 }
 
+// The arguments of some items, where each states one.
 fn args_in(alloc: Global, items: &[Value]) -> Result<Option<Args>, Memory>
     ensures { IfOk result (λ args. args ≡ spec.all_of spec.arg_of (items_view items.now)) }
 {
@@ -219,6 +236,7 @@ fn args_in(alloc: Global, items: &[Value]) -> Result<Option<Args>, Memory>
     Ok(Some(args))
 }
 
+// The at most 8 arguments that stand under a key, none where it is missing.
 fn args_under(alloc: Global, table: &Table, key: &str) -> Result<Option<Args>, Memory>
     ensures value { IfOk result (λ args. args ≡ spec.args_of (get_member key.now (table_view table.now))) }
     ensures within { IfOk result (λ found. IfSome found (λ args. length args ≤ 8)) }
@@ -238,6 +256,7 @@ fn args_under(alloc: Global, table: &Table, key: &str) -> Result<Option<Args>, M
     }
 }
 
+// A node of a kind that a rule is for.
 fn ruled_of(alloc: Global, kind: &str, table: &Table) -> Result<Option<NodeKind>, Memory>
     requires { IsTrue (names.is_name kind.now) }
     ensures value { IfOk result (λ node. node ≡ spec.ruled_of kind.now (table_view table.now)) }
@@ -250,6 +269,7 @@ fn ruled_of(alloc: Global, kind: &str, table: &Table) -> Result<Option<NodeKind>
     Ok(Some(NodeKind::Ruled { kind, args }))
 }
 
+// What a node is.
 fn kind_of(alloc: Global, table: &Table) -> Result<Option<NodeKind>, Memory>
     ensures value { IfOk result (λ kind. kind ≡ spec.kind_of (table_view table.now)) }
     ensures within { IfOk result (λ kind. IfSome kind IsWithinLimits) }

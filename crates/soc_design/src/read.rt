@@ -16,9 +16,9 @@ use std::str;
 use toml::Table;
 
 /// The most bytes of a design file.
-const MOST_BYTES: usize = 1_048_576;
+pub const MOST_BYTES: usize = 1_048_576;
 
-/// The tree of a file that isn't too long, is UTF-8, and is TOML.
+// The tree of a file that isn't too long, is UTF-8, and is TOML.
 fn tree_of(alloc: Global, bytes: &[u8]) -> Result<Option<Table>, Memory>
     ensures { IfOk result (λ tree. option_map table_view tree ≡ spec.tree_of bytes.now) }
 {
@@ -35,6 +35,7 @@ fn tree_of(alloc: Global, bytes: &[u8]) -> Result<Option<Table>, Memory>
     }
 }
 
+// The design that a tree states; `Fault::Check` names the first of the checks 2 to 4 that fails.
 fn design_in(alloc: Global, table: &Table) -> Result<Design, Fault>
     ensures ok { IfOk result (λ design. spec.design_of (table_view table.now) ≡ Some design) }
     ensures modules { IfOk result (λ design. length design.modules ≤ 256) }
@@ -61,7 +62,7 @@ fn design_in(alloc: Global, table: &Table) -> Result<Design, Fault>
 ///
 /// `Fault::Check` names the first of the checks 1 to 4 that fails, and the entry at which it does: entry
 /// 0 is the top table, then come the modules, the nodes and the binds, each in file order. After
-/// `Fault::Memory` nothing is known.
+/// `Fault::Memory` nothing is known of the file.
 pub fn read_design(alloc: Global, bytes: &[u8]) -> Result<Design, Fault>
     ensures ok { IfOk result (λ design. spec.stated_design bytes.now ≡ Some design) }
     ensures modules { IfOk result (λ design. length design.modules ≤ 256) }

@@ -14,6 +14,7 @@ use toml_shape::{
     tables_under, under,
 };
 
+// The keys of the top table, of a module, of nodes by their kinds, of a bind, and of the sizes of operations.
 const TOP_KEYS: [&str; 6] = ["version", "name", "policy", "module", "node", "bind"];
 
 const MODULE_KEYS: [&str; 2] = ["name", "parent"];
@@ -35,6 +36,7 @@ const OPERATION_KEYS: [&str; 6] = [
     "intent",
 ];
 
+// Whether each item is an integer.
 fn are_integers(items: &[Value]) -> bool
     ensures { result ≡ spec.are_integers (items_view items.now) }
 {
@@ -46,6 +48,7 @@ fn are_integers(items: &[Value]) -> bool
     true
 }
 
+// Whether an array of integers or nothing stands under a key.
 fn may_have_integers(table: &Table, key: &str) -> bool
     ensures { result ≡ may_have spec.is_integer_list (get_member key.now (table_view table.now)) }
 {
@@ -56,6 +59,7 @@ fn may_have_integers(table: &Table, key: &str) -> bool
     }
 }
 
+// Whether each item is an array of two integers.
 fn are_pairs(items: &[Value]) -> bool
     ensures { result ≡ spec.are_pairs (items_view items.now) }
 {
@@ -67,6 +71,7 @@ fn are_pairs(items: &[Value]) -> bool
     true
 }
 
+// Whether a value is an array of such pairs.
 fn is_set_list(value: &Value) -> bool
     ensures { result ≡ spec.is_set_list (view value.now) }
 {
@@ -76,6 +81,7 @@ fn is_set_list(value: &Value) -> bool
     }
 }
 
+// Whether each item is an array of such pairs.
 fn are_set_lists(items: &[Value]) -> bool
     ensures { result ≡ spec.are_set_lists (items_view items.now) }
 {
@@ -87,6 +93,7 @@ fn are_set_lists(items: &[Value]) -> bool
     true
 }
 
+// Whether an array with an array of such pairs for each port stands under a key.
 fn has_port_list(table: &Table, key: &str) -> bool
     ensures { result ≡ has spec.is_port_list (get_member key.now (table_view table.now)) }
 {
@@ -96,6 +103,7 @@ fn has_port_list(table: &Table, key: &str) -> bool
     }
 }
 
+// Whether an array of two integers stands under each key.
 fn have_pairs(table: &Table) -> bool
     ensures { result ≡ spec.have_pairs (table_view table.now) }
 {
@@ -107,6 +115,7 @@ fn have_pairs(table: &Table) -> bool
     true
 }
 
+// Whether a table of pairs by the names of operations stands under a key.
 fn has_operations(table: &Table, key: &str) -> bool
     ensures { result ≡ has spec.is_operations (get_member key.now (table_view table.now)) }
 {
@@ -117,6 +126,7 @@ fn has_operations(table: &Table, key: &str) -> bool
     }
 }
 
+// Whether modules, nodes and binds, as far as they are there, are arrays of tables.
 fn has_arrays(table: &Table) -> bool
     ensures { result ≡ spec.has_arrays (table_view table.now) }
 {
@@ -125,6 +135,7 @@ fn has_arrays(table: &Table) -> bool
         && tables_under(table, "bind").is_some()
 }
 
+// Whether the top table has its shape.
 fn top_has_shape(table: &Table) -> bool
     ensures { result ≡ spec.top_has_shape (table_view table.now) }
 {
@@ -135,6 +146,7 @@ fn top_has_shape(table: &Table) -> bool
         && has_arrays(table)
 }
 
+// Whether the table of a source has its shape.
 fn source_has_shape(table: &Table) -> bool
     ensures { result ≡ spec.source_has_shape (table_view table.now) }
 {
@@ -144,6 +156,7 @@ fn source_has_shape(table: &Table) -> bool
         && may_have_integer(table, "ports")
 }
 
+// Whether the table of a sink has its shape.
 fn sink_has_shape(table: &Table) -> bool
     ensures { result ≡ spec.sink_has_shape (table_view table.now) }
 {
@@ -153,12 +166,14 @@ fn sink_has_shape(table: &Table) -> bool
         && has_operations(table, "supports")
 }
 
+// Whether the table of a node of any other kind has its shape.
 fn ruled_has_shape(table: &Table) -> bool
     ensures { result ≡ spec.ruled_has_shape (table_view table.now) }
 {
     keys_among(&RULED_KEYS, table) && may_have_integers(table, "args")
 }
 
+// Whether the table of a node has the shape that its kind asks for.
 fn kind_has_shape(table: &Table) -> bool
     ensures { result ≡ spec.kind_has_shape (table_view table.now) }
 {
@@ -170,6 +185,7 @@ fn kind_has_shape(table: &Table) -> bool
     }
 }
 
+// Whether a value has the shape of a module.
 fn module_has_shape(value: &Value) -> bool
     ensures { result ≡ spec.module_has_shape (view value.now) }
 {
@@ -181,6 +197,7 @@ fn module_has_shape(value: &Value) -> bool
         && may_have_name(table, "parent")
 }
 
+// Whether a value has the shape of a node.
 fn node_has_shape(value: &Value) -> bool
     ensures { result ≡ spec.node_has_shape (view value.now) }
 {
@@ -190,6 +207,7 @@ fn node_has_shape(value: &Value) -> bool
     name_under(table, "name").is_some() && may_have_name(table, "module") && kind_has_shape(table)
 }
 
+// Whether a value has the shape of a bind.
 fn bind_has_shape(value: &Value) -> bool
     ensures { result ≡ spec.bind_has_shape (view value.now) }
 {
@@ -215,6 +233,7 @@ fn misshapen_module(modules: &[Value]) -> Option<u64>
     None
 }
 
+// The first of some nodes that hasn't its shape, where the first one is the entry `entry`.
 fn misshapen_node(nodes: &[Value], entry: u64) -> Option<u64>
     requires { entry + length nodes.now < 2 ^ 64 }
     ensures { result ≡ first (failing (λ place d. not (spec.node_has_shape d)) 0 entry
@@ -228,6 +247,7 @@ fn misshapen_node(nodes: &[Value], entry: u64) -> Option<u64>
     None
 }
 
+// The first of some binds that hasn't its shape, where the first one is the entry `entry`.
 fn misshapen_bind(binds: &[Value], entry: u64) -> Option<u64>
     requires { entry + length binds.now < 2 ^ 64 }
     ensures { result ≡ first (failing (λ place d. not (spec.bind_has_shape d)) 0 entry

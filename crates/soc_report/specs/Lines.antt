@@ -3,10 +3,11 @@ use Rattle.std.specs.Prelude.{ℕ, List, [], ◌++◌, codes, decimal}
 use Rattle.soc_report.specs.declared.status.Status.{Status}
 use Rattle.soc_report.specs.declared.status.Status.TheVariants.{Done, Refused, Usage, ReadFailed, WriteFailed, Memory}
 
--- a check that fails at a subject
+-- the line of a check that fails at a subject
 abbrev pub refused_line : ℕ → ℕ → List ℕ
 refused_line check subject = codes "refused " ++ decimal check ++ codes " " ++ decimal subject ++ codes "\n"
 
+-- the line that an answer prints: none where all output was written, or where nothing more can be
 abbrev pub line_of : Status → List ℕ
 line_of Done = []
 line_of (Refused check subject) = refused_line check subject
@@ -15,6 +16,7 @@ line_of ReadFailed = codes "read failed\n"
 line_of WriteFailed = []
 line_of Memory = []
 
+-- the exit status of an answer
 abbrev pub code_of : Status → ℕ
 code_of Done = 0
 code_of (Refused check subject) = 1

@@ -5,10 +5,6 @@ mod map;
 mod ports;
 mod slaves;
 mod status;
-mod writing;
 
-pub use map::{Bytes, map_text};
+pub use map::map_text;
 pub use status::{Status, fault_text};
-
-#[cfg(test)]
-mod tests;

@@ -2,15 +2,13 @@ ghost use Rattle.std.specs.Prelude.{◌≡◌, ◌++◌, decimal, IfOk, OnOk};
 ghost use Rattle.soc_report.specs.MapText as spec;
 
 use crate::ports::add_all_lines;
-use crate::writing::Text;
 use dip_checks::Accepted;
 use dip_graph::Design;
-use dip_lists::{Items, Memory};
+use dip_lists::{Bytes, Memory};
+use dip_text::Text;
 use std::alloc::Global;
 
-/// The bytes of a text.
-pub type Bytes = Items<u8>;
-
+// Puts the first line of a map at the end of a text.
 fn add_design_line(text: &mut Text, name: &[u8], edges: usize) -> Result<(), Memory>
     ensures { OnOk result (text.new ≡ text.old ++ spec.design_line name.now edges) }
 {

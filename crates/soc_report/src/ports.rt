@@ -1,93 +1,91 @@
 ghost use Rattle.std.specs.Prelude.{◌≡◌, ◌++◌, OnOk};
-ghost use Rattle.soc_report.specs.MapText.{all_lines, ids_of, is_source, lines_if_from, node_lines, port_line};
-ghost use Rattle.soc_report.specs.MapText.{port_lines, source_lines};
+ghost use Rattle.soc_report.specs.MapText.{all_lines, kind_lines, lines_if_from, node_lines, port_line};
+ghost use Rattle.soc_report.specs.MapText.{port_lines};
 
 use crate::slaves::add_slave_lines;
-use crate::writing::Text;
 use dip_graph::{Edge, NodeEntry, NodeKind};
 use dip_lists::Memory;
+use dip_text::Text;
 use tl_params::UpPort;
 
-fn ids_of(kind: &NodeKind) -> u32
-    ensures { result ≡ ids_of kind.now }
-{
-    match kind {
-        NodeKind::Source { ids, .. } => *ids,
-        NodeKind::Sink { .. } | NodeKind::Ruled { .. } => 0,
-    }
-}
-
+// Adds the line of an out port of a source with so many ids, whose bus has so many bytes.
 #[tactic(auto, unfolding(crate::specs::MapText::port_line))]
-fn add_port_line(text: &mut Text, source: &NodeEntry, port: u32, beat: u32) -> Result<(), Memory>
-    ensures { OnOk result (text.new ≡ text.old ++ port_line source.now port beat) }
+fn add_port_line(
+    text: &mut Text,
+    name: &[u8],
+    port: u32,
+    ids: u32,
+    beat: u32,
+) -> Result<(), Memory>
+    ensures { OnOk result (text.new ≡ text.old ++ port_line name.now port ids beat) }
 {
     text.add(b"port ")?;
-    text.add(source.name.bytes())?;
+    text.add(name)?;
     text.add(b".")?;
     text.add_number(u64::from(port))?;
     text.add(b" ids ")?;
-    text.add_number(u64::from(ids_of(&source.kind)))?;
+    text.add_number(u64::from(ids))?;
     text.add(b" beat ")?;
     text.add_number(u64::from(beat))?;
     text.add(b"\n")
 }
 
+// Adds the line of an edge's out port, and those of what it reaches.
 #[tactic(auto, unfolding(crate::specs::MapText::port_lines))]
 fn add_port_lines(
     text: &mut Text,
     nodes: &[NodeEntry],
-    source: &NodeEntry,
+    name: &[u8],
+    ids: u32,
     edge: &Edge,
     up: &UpPort,
 ) -> Result<(), Memory>
-    ensures { OnOk result (text.new ≡ text.old ++ port_lines nodes.now source.now edge.now up.now) }
+    ensures { OnOk result (text.new ≡ text.old ++ port_lines nodes.now name.now ids edge.now up.now) }
 {
-    add_port_line(text, source, edge.from_port, up.beat)?;
+    add_port_line(text, name, edge.from_port, ids, up.beat)?;
     add_slave_lines(text, nodes, up.slaves.as_slice())
 }
 
+// Adds the lines of an edge's out port, where the edge comes from the node with this number.
 #[tactic(auto, unfolding(crate::specs::MapText::lines_if_from))]
 fn add_lines_if_from(
     text: &mut Text,
     nodes: &[NodeEntry],
     number: usize,
-    source: &NodeEntry,
+    name: &[u8],
+    ids: u32,
     edge: &Edge,
     up: &UpPort,
 ) -> Result<(), Memory>
-    ensures { OnOk result (text.new ≡ text.old ++ lines_if_from nodes.now number source.now edge.now up.now) }
+    ensures { OnOk result (text.new ≡ text.old ++ lines_if_from nodes.now number name.now ids edge.now up.now) }
 {
     if edge.from as usize == number {
-        add_port_lines(text, nodes, source, edge, up)
+        add_port_lines(text, nodes, name, ids, edge, up)
     } else {
         Ok(())
     }
 }
 
+// Adds the lines of a source's ports, which are numbered in the order of edges.
 fn add_node_lines(
     text: &mut Text,
     nodes: &[NodeEntry],
     number: usize,
-    source: &NodeEntry,
+    name: &[u8],
+    ids: u32,
     edges: &[Edge],
     ups: &[UpPort],
 ) -> Result<(), Memory>
-    ensures { OnOk result (text.new ≡ text.old ++ node_lines nodes.now number source.now edges.now ups.now) }
+    ensures { OnOk result (text.new ≡ text.old ++ node_lines nodes.now number name.now ids edges.now ups.now) }
 {
     for at in 0..edges.len().min(ups.len()) {
-        add_lines_if_from(text, nodes, number, source, &edges[at], &ups[at])?;
+        add_lines_if_from(text, nodes, number, name, ids, &edges[at], &ups[at])?;
     }
     Ok(())
 }
 
-fn is_source(kind: &NodeKind) -> bool
-    ensures { result ≡ is_source kind.now }
-{
-    matches!(kind, NodeKind::Source { .. })
-}
-
-#[tactic(auto, unfolding(crate::specs::MapText::source_lines))]
-fn add_source_lines(
+// Adds the lines of a node's ports where it is a source.
+fn add_kind_lines(
     text: &mut Text,
     nodes: &[NodeEntry],
     number: usize,
@@ -95,12 +93,14 @@ fn add_source_lines(
     edges: &[Edge],
     ups: &[UpPort],
 ) -> Result<(), Memory>
-    ensures { OnOk result (text.new ≡ text.old ++ source_lines nodes.now number node.now edges.now ups.now) }
+    ensures { OnOk result (text.new ≡ text.old ++ kind_lines nodes.now number node.now.name node.now.kind edges.now
+        ups.now) }
 {
-    if is_source(&node.kind) {
-        add_node_lines(text, nodes, number, node, edges, ups)
-    } else {
-        Ok(())
+    match &node.kind {
+        NodeKind::Source { ids, .. } => {
+            add_node_lines(text, nodes, number, node.name.bytes(), *ids, edges, ups)
+        }
+        NodeKind::Sink { .. } | NodeKind::Ruled { .. } => Ok(()),
     }
 }
 
@@ -114,7 +114,7 @@ pub fn add_all_lines(
     ensures { OnOk result (text.new ≡ text.old ++ all_lines nodes.now 0 nodes.now edges.now ups.now) }
 {
     for (number, node) in nodes.iter().enumerate() {
-        add_source_lines(text, nodes, number, node, edges, ups)?;
+        add_kind_lines(text, nodes, number, node, edges, ups)?;
     }
     Ok(())
 }

@@ -1,12 +1,14 @@
 ghost use Rattle.std.specs.Prelude.{◌≡◌, ◌++◌, OnOk, slice_get};
-ghost use Rattle.soc_report.specs.MapText.{name_of, operations_text, place_text, set_line, set_lines, set_text, sizes_text, slave_lines};
+ghost use Rattle.soc_report.specs.MapText.{name_of, operations_text, place_text, set_line, set_lines};
+ghost use Rattle.soc_report.specs.MapText.{set_text, sizes_text, slave_lines};
 
-use crate::writing::Text;
 use dip_graph::NodeEntry;
 use dip_lists::Memory;
 use dip_sets::{AddressSet, Sizes};
+use dip_text::Text;
 use tl_params::{Ops, Slave};
 
+// Adds the name of a node by its number, `?` where there is none.
 fn add_name(text: &mut Text, nodes: &[NodeEntry], node: u32) -> Result<(), Memory>
     ensures { OnOk result (text.new ≡ text.old ++ name_of (slice_get nodes.now node)) }
 {
@@ -16,6 +18,7 @@ fn add_name(text: &mut Text, nodes: &[NodeEntry], node: u32) -> Result<(), Memor
     }
 }
 
+// Adds a port of a node, as `ram.0`.
 #[tactic(auto, unfolding(crate::specs::MapText::place_text))]
 fn add_place(text: &mut Text, nodes: &[NodeEntry], node: u32, port: u32) -> Result<(), Memory>
     ensures { OnOk result (text.new ≡ text.old ++ place_text nodes.now node port) }
@@ -25,6 +28,7 @@ fn add_place(text: &mut Text, nodes: &[NodeEntry], node: u32, port: u32) -> Resu
     text.add_number(u64::from(port))
 }
 
+// Adds the least and the greatest size of an operation, as ` get=1-8`, and nothing where it has none.
 #[tactic(auto, unfolding(crate::specs::MapText::sizes_text))]
 fn add_sizes(text: &mut Text, key: &[u8], sizes: &Sizes) -> Result<(), Memory>
     ensures { OnOk result (text.new ≡ text.old ++ sizes_text key.now sizes.now) }
@@ -40,6 +44,7 @@ fn add_sizes(text: &mut Text, key: &[u8], sizes: &Sizes) -> Result<(), Memory>
     text.add_number(u64::from(sizes.max()))
 }
 
+// Adds the sizes of each operation.
 #[tactic(auto, unfolding(crate::specs::MapText::operations_text))]
 fn add_operations(text: &mut Text, ops: &Ops) -> Result<(), Memory>
     ensures { OnOk result (text.new ≡ text.old ++ operations_text ops.now) }
@@ -52,6 +57,7 @@ fn add_operations(text: &mut Text, ops: &Ops) -> Result<(), Memory>
     add_sizes(text, b"intent", &ops.intent)
 }
 
+// Adds the base and the mask of an address set.
 #[tactic(auto, unfolding(crate::specs::MapText::set_text))]
 fn add_set(text: &mut Text, set: &AddressSet) -> Result<(), Memory>
     ensures { OnOk result (text.new ≡ text.old ++ set_text set.now) }
@@ -63,6 +69,7 @@ fn add_set(text: &mut Text, set: &AddressSet) -> Result<(), Memory>
     text.add(b" ")
 }
 
+// Adds the line of an address set of a slave.
 #[tactic(auto, unfolding(crate::specs::MapText::set_line))]
 fn add_set_line(
     text: &mut Text,
@@ -78,6 +85,7 @@ fn add_set_line(
     text.add(b"\n")
 }
 
+// Adds a line for each address set of a slave.
 fn add_set_lines(text: &mut Text, nodes: &[NodeEntry], slave: &Slave) -> Result<(), Memory>
     ensures { OnOk result (text.new ≡ text.old ++ set_lines nodes.now slave.now slave.now.addresses) }
 {

@@ -47,6 +47,7 @@ fn add(into: &mut [u8; 256], at: usize, piece: &[u8]) -> usize
     end
 }
 
+// Writes the line of a check that fails to the front of `into`, and answers where it ends.
 fn refused_text(check: u16, subject: u64, into: &mut [u8; 256]) -> usize
     ensures within { result ≤ 256 }
     ensures text { take result into.new ≡ refused_line check subject }

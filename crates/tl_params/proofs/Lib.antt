@@ -1,2 +1,4 @@
 mod OwnedBy
+pub mod Greatest
+mod Carrying
 pub mod OneOwner

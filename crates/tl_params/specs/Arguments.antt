@@ -6,14 +6,15 @@ use Rattle.dip_sets.specs.SizeRanges.{SizeRange, size_range, is_size_pair}
 abbrev pub is_width : ℕ → Bool
 is_width bytes = bytes == 1 || bytes == 2 || bytes == 4 || bytes == 8
 
--- a fragmenter takes two arguments, the bytes of a piece and of the largest transfer: powers of two in order, at most 256. They are
--- seen as the sizes from the one to the other.
+-- a fragmenter takes two arguments, the bytes of a piece and of the largest transfer: powers of two in order, at most
+-- 256. They are seen as the sizes from the one to the other.
 abbrev pub fragment_arguments : List ℕ → Option SizeRange
 fragment_arguments [] = None
 fragment_arguments (piece ∷ []) = None
 fragment_arguments (piece ∷ largest ∷ []) = cond (is_size_pair piece largest) (Some (size_range piece largest)) None
 fragment_arguments (piece ∷ largest ∷ other ∷ more) = None
 
+-- the sizes from a piece to a largest transfer
 abbrev pub AreFragments : SizeRange → Type 0
 AreFragments fragments = IsTrue (is_size_pair fragments.min fragments.max)
 

@@ -14,15 +14,18 @@ all_zip test (x ∷ xs) (y ∷ ys) = test x y && all_zip test xs ys
 
 -- ---- slaves: both edges show the same ones in the same order
 
+-- two sets have the same base and mask
 abbrev pub is_same_set : Pattern → Pattern → Bool
 is_same_set s t = s.base == t.base && s.mask == t.mask
 
+-- two slaves have the same node, port and address sets
 abbrev pub is_same_slave : Slave → Slave → Bool
 is_same_slave s t = s.node == t.node && s.port == t.port && all_zip is_same_set s.addresses t.addresses
 
 -- ---- supports: the in edge promises no more than the out edge
 
--- sizes that are cut: those up to a piece go on as they are, and larger ones as pieces. The pieces are the sizes from 1 to a piece.
+-- sizes that are cut: those up to a piece go on as they are, and larger ones as pieces. The pieces are the sizes from 1
+-- to a piece.
 abbrev pub fits_pieces : SizeRange → SizeRange → SizeRange → Bool
 fits_pieces pieces s t = is_within (meet s pieces) t && (nat_le s.max pieces.max || has_size t pieces.max)
 
@@ -31,6 +34,7 @@ abbrev pub sizes_fit : Option SizeRange → SizeRange → SizeRange → Bool
 sizes_fit None s t = is_within s t
 sizes_fit (Some pieces) s t = fits_pieces pieces s t
 
+-- the sizes of each operation fit; those of atomic operations and of intents are never cut
 abbrev pub ops_fit : Option SizeRange → Ops → Ops → Bool
 ops_fit pieces s t =
     sizes_fit pieces s.get t.get
@@ -40,8 +44,10 @@ ops_fit pieces s t =
     && is_within s.logical t.logical
     && is_within s.intent t.intent
 
+-- a slave that an edge shows is the real one, and promises no more
 abbrev pub slave_fits : Option SizeRange → Slave → Slave → Bool
 slave_fits pieces s t = is_same_slave s t && ops_fit pieces s.supports t.supports
 
+-- each shown slave fits the real one at its place, and there are as many of both
 abbrev pub slaves_fit : Option SizeRange → List Slave → List Slave → Bool
 slaves_fit pieces shown real = all_zip (slave_fits pieces) shown real

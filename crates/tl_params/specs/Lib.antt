@@ -3,4 +3,5 @@ pub mod Carried
 pub mod Operations
 pub mod OwnerLaw
 pub mod Owners
+pub mod CarriedLaw
 pub mod Apart

@@ -1,5 +1,5 @@
 -- The sizes of operations, and the templates of nodes.
-use Rattle.std.specs.Prelude.{ℕ, max, Bool, true, false}
+use Rattle.std.specs.Prelude.{ℕ, ◌≤◌, max, Bool, true, false}
 use Rattle.dip_sets.specs.SizeRanges.{SizeRange}
 use Rattle.tl_params.specs.declared.ops.Op.{Op}
 use Rattle.tl_params.specs.declared.ops.Op.TheVariants.{PutFull, PutPartial, Arithmetic, Logical, Get, Intent}
@@ -18,7 +18,14 @@ sizes_of ops Intent = ops.intent
 
 -- the greatest size of any operation, 0 where there is none
 abbrev pub largest : Ops → ℕ
-largest ops = max (max (max ops.get.max (max ops.put_full.max ops.put_partial.max)) (max ops.arithmetic.max ops.logical.max)) ops.intent.max
+largest ops =
+    max
+    (max (max ops.get.max (max ops.put_full.max ops.put_partial.max)) (max ops.arithmetic.max ops.logical.max))
+    ops.intent.max
+
+-- no operation has a greater size
+abbrev pub IsGreatest : Ops → ℕ → Type 0
+IsGreatest ops bytes = (op : Op) → (sizes_of ops op).max ≤ bytes
 
 -- all inputs and outputs of a nexus belong together; those of another node in pairs
 abbrev pub is_nexus : Template → Bool

@@ -14,8 +14,12 @@ HaveSets slaves = All (λ (slave : Slave). All IsSet slave.addresses) slaves
 
 -- an answered place owns the address, and is the first that does; where none is answered, none does
 abbrev pub IsOwner : List Slave → ℕ → Option ℕ → Type 0
-IsOwner slaves address (Some place) = Owns slaves place address × ((earlier : ℕ) → earlier < place → Owns slaves earlier address → ⊥)
+IsOwner slaves address (Some place) =
+    Owns slaves place address × ((earlier : ℕ) → earlier < place → Owns slaves earlier address → ⊥)
 IsOwner slaves address None = (place : ℕ) → Owns slaves place address → ⊥
 
+-- what is computed as the owner of an address is it
 abbrev pub OwnersByMembers : Type 0
-OwnersByMembers = (slaves : List Slave) (address : ℕ) → HaveSets slaves → address < 2 ^ 64 → IsOwner slaves address (owner slaves address)
+OwnersByMembers =
+    (slaves : List Slave) (address : ℕ) → HaveSets slaves → address < 2 ^ 64
+    → IsOwner slaves address (owner slaves address)

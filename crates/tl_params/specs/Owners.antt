@@ -12,8 +12,10 @@ holds slave address = list_any (λ s. is_in s address) slave.addresses
 -- the place, counted from a first one, of the first slave that holds the address
 abbrev pub owner_from : ℕ → List Slave → ℕ → Option ℕ
 owner_from place [] address = None
-owner_from place (slave ∷ slaves) address = cond (holds slave address) (Some place) (owner_from (place + 1) slaves address)
+owner_from place (slave ∷ slaves) address =
+    cond (holds slave address) (Some place) (owner_from (place + 1) slaves address)
 
+-- the place of the first slave that holds the address
 abbrev pub owner : List Slave → ℕ → Option ℕ
 owner slaves address = owner_from 0 slaves address
 

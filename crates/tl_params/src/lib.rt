@@ -10,6 +10,6 @@ pub use apart::one_owner_law;
 pub use ops::{Ack, Args, Numbers, Op, Ops, Policy, Template};
 pub use ports::{
     AddressLists, Addresses, DownPort, DownPorts, Master, Masters, Slave, Slaves, UpPort, UpPorts,
-    copy_down, copy_up, largest_end, owner, owner_law, same_down, same_up,
+    carried_law, copy_down, copy_up, largest_end, owner, owner_law, same_down, same_up,
 };
 pub use widths::is_width;

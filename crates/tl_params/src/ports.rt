@@ -1,4 +1,5 @@
-ghost use Rattle.std.specs.Prelude.{◌≡◌, ◌↔◌, IsTrue, IfOk};
+ghost use Rattle.std.specs.Prelude.{◌≡◌, ◌↔◌, ◌≤◌, IsTrue, IfOk, All};
+ghost use Rattle.tl_params.specs.CarriedLaw.{CarriedLaw};
 ghost use Rattle.tl_params.specs.OwnerLaw.{OwnersByMembers};
 ghost use Rattle.tl_params.specs.Owners as spec;
 
@@ -137,8 +138,10 @@ impl Duplicate for UpPort {
 }
 
 /// The greatest end of the masters' id ranges: one more than the greatest id. 0 where there is no master.
+#[tactic(auto, using(crate::proofs::Greatest::ends_at_most))]
 pub fn largest_end(port: &DownPort) -> u32
-    ensures { result ≡ spec.largest_end port.now.masters }
+    ensures value { result ≡ spec.largest_end port.now.masters }
+    ensures greatest { All (λ m. m.ids.end ≤ result) port.now.masters }
 {
     let mut largest = 0;
     for master in port.masters.as_slice() {
@@ -147,6 +150,7 @@ pub fn largest_end(port: &DownPort) -> u32
     largest
 }
 
+// Whether one of the slave's sets has the address.
 fn holds(slave: &Slave, address: u64) -> bool
     ensures { result ≡ spec.holds slave.now address }
 {
@@ -173,4 +177,10 @@ pub fn owner(port: &UpPort, address: u64) -> Option<usize>
 /// slave does, and where none is answered no slave does.
 pub fn owner_law()
     ensures { OwnersByMembers }
+{}
+
+/// What it means that an edge carries what another one shows: the same slaves with the same addresses, and
+/// each size of each operation, whole or, for gets and puts before a fragmenter, in pieces.
+pub fn carried_law()
+    ensures { CarriedLaw }
 {}

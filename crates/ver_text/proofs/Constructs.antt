@@ -11,7 +11,7 @@ use Rattle.ver_text.specs.declared.kind.Rule.TheVariants.{Ended}
 use Rattle.ver_text.specs.declared.grammar.State.{State}
 use Rattle.ver_text.specs.declared.progress.Progress.{Progress}
 use Rattle.ver_text.specs.Kinds.{is_word, same_kind, same_rule, number_of_kind}
-use Rattle.ver_text.specs.Grammar.{behind, next_rule, rule_of, step, within, is_whole}
+use Rattle.ver_text.specs.Grammar.{behind, next_rule, rule_begun, next_state, within, is_whole}
 use Rattle.ver_text.specs.Parts.{ends, closes}
 use Rattle.ver_text.specs.Spelling.{Sign}
 use Rattle.ver_text.proofs.Signs.{Seen, said, seen_next, due_seen}
@@ -103,7 +103,7 @@ wanted_by p a s ss q k (Some x) w e =
 
 wanted_goes : (p : Progress) (a : Seen) (s : Sign) (ss : List Sign) (q : Progress) (k : Kind) → slice_get (behind a.state.first) a.state.done ≡ Some k
     → said p a (s ∷ ss) ≡ Some q → Goes p a s ss q (same_kind k s.kind) (record { first = a.state.first; done = a.state.done + 1 })
-unfolding step
+unfolding next_state
 wanted_goes p a s ss q k w e = wanted_by p a s ss q k (slice_get (behind a.state.first) a.state.done) w e
 
 more_left : (xs js : List Kind) (k j : Kind) (n : ℕ) → drop n xs ≡ k ∷ j ∷ js → n + 1 < length xs
@@ -147,21 +147,21 @@ pub record Construct (r : Rule) (ss : List Sign) : Type 0 where
   pub word : List ℕ
   pub words : List (List ℕ)
   pub rest : List Sign
-  pub fits : same_rule r (rule_of kind) ≡ true
+  pub fits : same_rule r (rule_begun kind) ≡ true
   pub split : ss ≡ record { kind = kind; word = cond (is_word kind) word [] } ∷ (fill (behind kind) words ++ rest)
   pub bare : AllByRecursion Bare rest
 
 none_by : (p : Progress) (a : Seen) (s : Sign) (ss : List Sign) (q : Progress) (r : Rule) (wanted : Option Kind) → wanted ≡ None → next_rule a.state.first ≡ r
     → stepped p a s ss (within a.state wanted s.kind) ≡ Some q
-    → Goes p a s ss q (same_rule r (rule_of s.kind)) (record { first = s.kind; done = 0 })
+    → Goes p a s ss q (same_rule r (rule_begun s.kind)) (record { first = s.kind; done = 0 })
 none_by p a s ss q r (Some x) w n e = cc
 none_by p a s ss q r None w n e =
-    subst (λ y. Goes p a s ss q (same_rule y (rule_of s.kind)) (record { first = s.kind; done = 0 })) n
-    (goes_by p a s ss q (same_rule (next_rule a.state.first) (rule_of s.kind)) (record { first = s.kind; done = 0 }) e)
+    subst (λ y. Goes p a s ss q (same_rule y (rule_begun s.kind)) (record { first = s.kind; done = 0 })) n
+    (goes_by p a s ss q (same_rule (next_rule a.state.first) (rule_begun s.kind)) (record { first = s.kind; done = 0 }) e)
 
 first_goes : (p : Progress) (a : Seen) (s : Sign) (ss : List Sign) (q : Progress) (r : Rule) → Boundary a r → said p a (s ∷ ss) ≡ Some q
-    → Goes p a s ss q (same_rule r (rule_of s.kind)) (record { first = s.kind; done = 0 })
-unfolding step
+    → Goes p a s ss q (same_rule r (rule_begun s.kind)) (record { first = s.kind; done = 0 })
+unfolding next_state
 first_goes p a s ss q r d e = none_by p a s ss q r (slice_get (behind a.state.first) a.state.done) d.none d.next e
 
 behind_first : (left : List Kind) (p : Progress) (a : Seen) (s : Sign) (ss : List Sign) (q : Progress) → behind s.kind ≡ left → AllByRecursion Bare ss
@@ -201,7 +201,7 @@ construct r p a (s ∷ ss) q d n b e =
 
 -- ---- the end
 
-never_ended : (k : Kind) → same_rule Ended (rule_of k) ≡ false
+never_ended : (k : Kind) → same_rule Ended (rule_begun k) ≡ false
 never_ended Name = refl
 never_ended _ = refl
 

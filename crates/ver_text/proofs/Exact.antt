@@ -3,22 +3,18 @@ use Rattle.std.proofs.Common.{ℕ, ◌≡◌, ◌+◌, ◌-◌, ◌*◌, ◌^◌
 use Rattle.std.specs.Prelude.{decimal, codes, nat_lt, nat_le, ◌==◌, slice_index}
 use Rattle.std.specs.List.{prefix_len}
 use Rattle.std.specs.Str.{bytes_eq}
-use Rattle.std.proofs.lemmas.Bool.{false≢true}
 use Rattle.std.proofs.lemmas.Slice.Eq.{bytes_eq-Decides}
 use Rattle.std.proofs.lemmas.Bool.Decides.{nat_tests}
+use Rattle.dip_lists.proofs.Tests.{both}
 use Rattle.net_cells.specs.declared.netlist.CellOp.{CellOp}
 use Rattle.net_cells.specs.declared.netlist.CellOp.TheVariants.{Const, Not, And, Or, Xor, Add, Sub, Eq, Less, Mux, Concat, Select}
 use Rattle.net_cells.specs.Rules.{IsCell, IsWidth, HasWidth, HaveWidth, HaveOneWidth}
 use Rattle.ver_text.specs.Lexemes.{is_digit}
-use Rattle.ver_text.specs.Numerals.{digit_value, numeral, written, number_of, number_below, if_below, literal, literal_of}
+use Rattle.ver_text.specs.Numerals.{digit_value, numeral, written, written_number, number_below, if_below, literal, literal_of}
 use Rattle.ver_text.specs.Due.{width_of, width_by}
 use Rattle.ver_text.specs.Fits.{is_cell, is_net, has_width, have_width, have_one_width}
 use Rattle.ver_text.specs.TestLaw.{IsNumberIn, IsRangeIn, TestsAreExact}
 use Rattle.ver_text.proofs.Readback.{number_read, width_read}
-
-pub both_true : (a b : Bool) → (a && b) ≡ true → (a ≡ true) × (b ≡ true)
-both_true true b h = (refl, h)
-both_true false b h = absurd (false≢true h)
 
 pub join_true : (a b : Bool) → a ≡ true → b ≡ true → (a && b) ≡ true
 join_true true b h k = k
@@ -65,12 +61,12 @@ value_small base s n (c ∷ cs) h e =
     let v = value_by (nat_lt (s * base + digit_value c) (2 ^ 64)) base (s * base + digit_value c) n cs e in
     value_small base (s * base + digit_value c) n cs (lt_of (s * base + digit_value c) (2 ^ 64) v.0) v.1
 
-pub number_is : (text : List ℕ) (n : ℕ) → number_of text ≡ Some n → IsNumberIn text n
-unfolding number_of
+pub number_is : (text : List ℕ) (n : ℕ) → written_number text ≡ Some n → IsNumberIn text n
+unfolding written_number
 number_is text n e = let h = written_so decimal text (numeral 10 0 text) n e in (value_small 10 0 n text (omega arith) h.1, h.0)
 
-number_in : (text : List ℕ) (n : ℕ) → IsNumberIn text n → number_of text ≡ Some n
-number_in text n h = ap number_of h.1 ∙ number_read n h.0
+number_in : (text : List ℕ) (n : ℕ) → IsNumberIn text n → written_number text ≡ Some n
+number_in text n h = ap written_number h.1 ∙ number_read n h.0
 
 below_by : (limit n : ℕ) (o : Option ℕ) → if_below limit o ≡ Some n → (o ≡ Some n) × (n < limit)
 below_by limit n None e = cc
@@ -78,9 +74,9 @@ below_by limit n (Some v) e =
     let h = when_true (nat_lt v limit) v n e in
     (ap (λ x. Some x) h.1, subst (λ x. x < limit) h.1 (lt_of v limit h.0))
 
-pub below_is : (limit n : ℕ) (text : List ℕ) → number_below limit text ≡ Some n → (number_of text ≡ Some n) × (n < limit)
+pub below_is : (limit n : ℕ) (text : List ℕ) → number_below limit text ≡ Some n → (written_number text ≡ Some n) × (n < limit)
 unfolding number_below
-below_is limit n text e = below_by limit n (number_of text) e
+below_is limit n text e = below_by limit n (written_number text) e
 
 range_by : (high low : List ℕ) (width : ℕ) (o : Option ℕ) → number_below 64 high ≡ o → width_by o low ≡ Some width → IsRangeIn high low width
 range_by high low width None b e = cc
@@ -105,22 +101,22 @@ literal_is width value text e = (written_so (literal width) text (numeral 16 0 (
 -- ---- cells
 
 width_is : (ws : List ℕ) (x width : ℕ) → has_width ws x width ≡ true → HasWidth ws x width
-width_is ws x width e = let h = both_true (is_net ws x) (slice_index ws x == width) e in (lt_of x (length ws) h.0, eq_of (slice_index ws x) width h.1)
+width_is ws x width e = let h = both (is_net ws x) (slice_index ws x == width) e in (lt_of x (length ws) h.0, eq_of (slice_index ws x) width h.1)
 
 width_in : (ws : List ℕ) (x width : ℕ) → HasWidth ws x width → has_width ws x width ≡ true
 width_in ws x width h = join_true (is_net ws x) (slice_index ws x == width) (lt_to x (length ws) h.0) (eq_to (slice_index ws x) width h.1)
 
 widths_are : (ws : List ℕ) (x y width : ℕ) → have_width ws x y width ≡ true → HaveWidth ws x y width
-widths_are ws x y width e = let h = both_true (has_width ws x width) (has_width ws y width) e in (width_is ws x width h.0, width_is ws y width h.1)
+widths_are ws x y width e = let h = both (has_width ws x width) (has_width ws y width) e in (width_is ws x width h.0, width_is ws y width h.1)
 
 widths_in : (ws : List ℕ) (x y width : ℕ) → HaveWidth ws x y width → have_width ws x y width ≡ true
 widths_in ws x y width h = join_true (has_width ws x width) (has_width ws y width) (width_in ws x width h.0) (width_in ws y width h.1)
 
 one_is : (ws : List ℕ) (x y width : ℕ) → ((width == 1) && have_one_width ws x y) ≡ true → (width ≡ 1) × HaveOneWidth ws x y
 one_is ws x y width e =
-    let h = both_true (width == 1) (have_one_width ws x y) e in
-    let k = both_true (is_net ws x && is_net ws y) (slice_index ws x == slice_index ws y) h.1 in
-    let n = both_true (is_net ws x) (is_net ws y) k.0 in
+    let h = both (width == 1) (have_one_width ws x y) e in
+    let k = both (is_net ws x && is_net ws y) (slice_index ws x == slice_index ws y) h.1 in
+    let n = both (is_net ws x) (is_net ws y) k.0 in
     (eq_of width 1 h.0, (lt_of x (length ws) n.0, lt_of y (length ws) n.1, eq_of (slice_index ws x) (slice_index ws y) k.1))
 
 one_in : (ws : List ℕ) (x y width : ℕ) → (width ≡ 1) × HaveOneWidth ws x y → ((width == 1) && have_one_width ws x y) ≡ true
@@ -130,12 +126,12 @@ one_in ws x y width h =
     (join_true (is_net ws x) (is_net ws y) (lt_to x (length ws) h.1.0) (lt_to y (length ws) h.1.1)) (eq_to (slice_index ws x) (slice_index ws y) h.1.2))
 
 mux_is : (ws : List ℕ) (c x y width : ℕ) → (has_width ws c 1 && have_width ws x y width) ≡ true → HasWidth ws c 1 × HaveWidth ws x y width
-mux_is ws c x y width e = let h = both_true (has_width ws c 1) (have_width ws x y width) e in (width_is ws c 1 h.0, widths_are ws x y width h.1)
+mux_is ws c x y width e = let h = both (has_width ws c 1) (have_width ws x y width) e in (width_is ws c 1 h.0, widths_are ws x y width h.1)
 
 concat_is : (ws : List ℕ) (x y width : ℕ) → is_cell ws width (Concat x y) ≡ true → IsCell ws width (Concat x y)
 concat_is ws x y width e =
-    let k = both_true (is_net ws x && is_net ws y) (slice_index ws x + slice_index ws y == width) e in
-    let n = both_true (is_net ws x) (is_net ws y) k.0 in
+    let k = both (is_net ws x && is_net ws y) (slice_index ws x + slice_index ws y == width) e in
+    let n = both (is_net ws x) (is_net ws y) k.0 in
     (lt_of x (length ws) n.0, lt_of y (length ws) n.1, eq_of (slice_index ws x + slice_index ws y) width k.1)
 
 concat_in : (ws : List ℕ) (x y width : ℕ) → IsCell ws width (Concat x y) → is_cell ws width (Concat x y) ≡ true
@@ -145,9 +141,9 @@ concat_in ws x y width h =
 
 select_is : (ws : List ℕ) (x hi lo width : ℕ) → is_cell ws width (Select x hi lo) ≡ true → IsCell ws width (Select x hi lo)
 select_is ws x hi lo width e =
-    let a = both_true (is_net ws x && nat_lt hi (slice_index ws x) && nat_le lo hi) (width == hi - lo + 1) e in
-    let b = both_true (is_net ws x && nat_lt hi (slice_index ws x)) (nat_le lo hi) a.0 in
-    let n = both_true (is_net ws x) (nat_lt hi (slice_index ws x)) b.0 in
+    let a = both (is_net ws x && nat_lt hi (slice_index ws x) && nat_le lo hi) (width == hi - lo + 1) e in
+    let b = both (is_net ws x && nat_lt hi (slice_index ws x)) (nat_le lo hi) a.0 in
+    let n = both (is_net ws x) (nat_lt hi (slice_index ws x)) b.0 in
     (lt_of x (length ws) n.0, lt_of hi (slice_index ws x) n.1, le_of lo hi b.1, eq_of width (hi - lo + 1) a.1)
 
 select_in : (ws : List ℕ) (x hi lo width : ℕ) → IsCell ws width (Select x hi lo) → is_cell ws width (Select x hi lo) ≡ true

@@ -4,16 +4,17 @@ use Rattle.std.specs.Prelude.{codes, decimal, nat_eq, nat_le, slice_index, AllPa
 use Rattle.std.specs.List.{AllByRecursion, starts_with}
 use Rattle.std.proofs.lemmas.List.Elements.{recursion_from_All}
 use Rattle.std.proofs.lemmas.Fmt.{decimal_by_steps}
+use Rattle.dip_lists.proofs.Tests.{both}
 use Rattle.dip_sets.specs.Names.{is_name}
 use Rattle.net_cells.specs.declared.netlist.Port.{Port}
 use Rattle.net_cells.specs.declared.netlist.Reg.{Reg}
 use Rattle.net_cells.specs.declared.netlist.Cell.{Cell}
 use Rattle.net_cells.specs.declared.netlist.OutPort.{OutPort}
 use Rattle.net_cells.specs.Rules.{IsWellFormed, IsNamed, IsCell, IsWidth, HasWidth, widths, port_names}
-use Rattle.ver_text.specs.Numerals.{number_of, numbered}
-use Rattle.ver_text.specs.Due.{is_named}
+use Rattle.ver_text.specs.Numerals.{written_number, numbered}
+use Rattle.ver_text.specs.Due.{has_prefix}
 use Rattle.ver_text.specs.TextLaw.{HasNames}
-use Rattle.ver_text.proofs.Exact.{number_is, both_true, join_true, le_to, eq_of}
+use Rattle.ver_text.proofs.Exact.{number_is, join_true, le_to, eq_of}
 use Rattle.ver_text.proofs.NetNames.{Distinct, Unnumbered}
 use Rattle.ver_text.proofs.ValueParts.{declared_as}
 use Rattle.ver_text.proofs.PortParts.{names_of, widths_of, Apart, IsPort}
@@ -59,22 +60,22 @@ low_more n (d ∷ ds) h l c cs e = let t : d ≡ c = (cc) in let b : d ≤ 57 = 
 pub low_first : (n : ℕ) → n < 2 ^ 64 → Low n (decimal n)
 low_first n h = decimal_by_steps Low low_one low_more n h
 
-no_number_by : (o : Option ℕ) (c : ℕ) (cs : List ℕ) → 57 < c → number_of (c ∷ cs) ≡ o → number_of (c ∷ cs) ≡ None
+no_number_by : (o : Option ℕ) (c : ℕ) (cs : List ℕ) → 57 < c → written_number (c ∷ cs) ≡ o → written_number (c ∷ cs) ≡ None
 no_number_by None c cs h e = e
 no_number_by (Some n) c cs h e =
     let i = number_is (c ∷ cs) n e in
     let l : c ≤ 57 = low_first n i.0 c cs (sym i.1) in
     absurd (omega arith)
 
-no_number : (c : ℕ) (cs : List ℕ) → 57 < c → number_of (c ∷ cs) ≡ None
-no_number c cs h = no_number_by (number_of (c ∷ cs)) c cs h refl
+no_number : (c : ℕ) (cs : List ℕ) → 57 < c → written_number (c ∷ cs) ≡ None
+no_number c cs h = no_number_by (written_number (c ∷ cs)) c cs h refl
 
 reset_unnumbered : Unnumbered reset_port
 reset_unnumbered = (no_number 101 (115 ∷ 101 ∷ 116 ∷ []) (omega arith), refl)
 
 front_letter : (name : List ℕ) → starts_with nat_eq name (codes "p_") ≡ true → (cs : List ℕ) × (name ≡ 112 ∷ cs)
 front_letter [] h = cc
-front_letter (c ∷ cs) h = let t = both_true (nat_eq 112 c) _ h in (cs, ap (λ x. x ∷ cs) (sym (eq_of 112 c t.0)))
+front_letter (c ∷ cs) h = let t = both (nat_eq 112 c) _ h in (cs, ap (λ x. x ∷ cs) (sym (eq_of 112 c t.0)))
 
 port_unnumbered : (p : Port) → IsNamed (codes "p_") p.name → Unnumbered p
 port_unnumbered p h = let f = front_letter p.name h.0 in (ap (numbered 114) f.1, ap (numbered 119) f.1)
@@ -99,7 +100,7 @@ of_map P f (x ∷ xs) h = (h.0, of_map P f xs h.1)
 
 -- ---- ports
 
-named_is : (front name : List ℕ) → IsNamed front name → is_named front name ≡ true
+named_is : (front name : List ℕ) → IsNamed front name → has_prefix front name ≡ true
 named_is front name h = join_true (starts_with nat_eq name front) (nat_le 3 (length name)) h.0 (le_to 3 (length name) h.1)
 
 port_is : (p : Port) → IsNamed (codes "p_") p.name → is_name p.name ≡ true → IsWidth p.width → IsPort p

@@ -6,6 +6,7 @@ use Rattle.std.specs.Str.{bytes_eq}
 use Rattle.std.proofs.lemmas.Bool.{false≢true}
 use Rattle.std.proofs.lemmas.List.{append-nil}
 use Rattle.std.proofs.lemmas.Slice.Eq.{bytes_eq-Decides}
+use Rattle.dip_lists.proofs.Tests.{both}
 use Rattle.dip_sets.specs.Names.{is_name}
 use Rattle.net_cells.specs.declared.netlist.Port.{Port}
 use Rattle.ver_text.specs.declared.kind.Kind.{Kind}
@@ -14,13 +15,13 @@ use Rattle.ver_text.specs.declared.kind.Rule.{Rule}
 use Rattle.ver_text.specs.declared.kind.Rule.TheVariants as rule
 use Rattle.ver_text.specs.declared.progress.Progress.{Progress}
 use Rattle.ver_text.specs.Kinds.{is_word, same_rule}
-use Rattle.ver_text.specs.Grammar.{behind, rule_of, step}
-use Rattle.ver_text.specs.Due.{due_by, due_name, due_input, due_output, with_input, with_output, is_named, is_new, is_port_name, is_none, width_of, at_first}
+use Rattle.ver_text.specs.Grammar.{behind, rule_begun, next_state}
+use Rattle.ver_text.specs.Due.{due_by, due_name, due_input, due_output, with_input, with_output, has_prefix, is_new, is_port_name, is_none, width_of, at_first}
 use Rattle.ver_text.specs.Spelling.{Sign}
 use Rattle.ver_text.specs.TestLaw.{IsRangeIn}
 use Rattle.ver_text.proofs.Signs.{Seen, said}
 use Rattle.ver_text.proofs.Segments.{Boundary, due_then, first_said, close_said, seen_start}
-use Rattle.ver_text.proofs.Exact.{both_true, eq_of, range_is}
+use Rattle.ver_text.proofs.Exact.{eq_of, range_is}
 use Rattle.ver_text.proofs.PortParts.{headed, names_of, widths_of, names_more, widths_more, Apart, IsPort}
 use Rattle.ver_text.proofs.Spelled.{reset_port}
 use Rattle.ver_text.proofs.Told.{Bare}
@@ -48,11 +49,11 @@ pub record Onward (first : List Sign) (r : Rule) (p q : Progress) (ss : List Sig
   pub bare : AllByRecursion Bare rest
 
 between : (P : List Sign → Type 0) (k : Kind) (ws : List (List ℕ)) (rest : List Sign) (w : List ℕ) (p : Progress) (a : Seen) (q : Progress) → Boundary a rule.MorePorts
-    → same_rule rule.MorePorts (rule_of k) ≡ true → AllByRecursion Bare rest
+    → same_rule rule.MorePorts (rule_begun k) ≡ true → AllByRecursion Bare rest
     → said p a (record { kind = k; word = cond (is_word k) w [] } ∷ (fill (behind k) ws ++ rest)) ≡ Some q
     → ((ss : List Sign) → Onward (plain kind.Comma ∷ []) rule.Port p q ss → P ss) → ((ss : List Sign) → Onward close_signs rule.Item p q ss → P ss)
     → P (record { kind = k; word = cond (is_word k) w [] } ∷ (fill (behind k) ws ++ rest))
-unfolding step
+unfolding next_state
 between P kind.Comma ws rest w p a q d t b e comma close =
     comma _ (record {
       rest = rest;
@@ -142,11 +143,11 @@ ported what p q a ws ss rest b d s e =
     }
 
 by_direction : (P : List Sign → Type 0) (k : Kind) (ws : List (List ℕ)) (rest : List Sign) (w : List ℕ) (p : Progress) (a : Seen) (q : Progress) → Boundary a rule.Port
-    → same_rule rule.Port (rule_of k) ≡ true → AllByRecursion Bare rest
+    → same_rule rule.Port (rule_begun k) ≡ true → AllByRecursion Bare rest
     → said p a (record { kind = k; word = cond (is_word k) w [] } ∷ (fill (behind k) ws ++ rest)) ≡ Some q
     → ((ss : List Sign) → Ported kind.Input p q ss → P ss) → ((ss : List Sign) → Ported kind.Output p q ss → P ss)
     → P (record { kind = k; word = cond (is_word k) w [] } ∷ (fill (behind k) ws ++ rest))
-unfolding step due_by
+unfolding next_state due_by
 by_direction P kind.Input ws rest w p a q d t b e input output =
     input _ (ported kind.Input p q a ws _ rest b (record { none = refl; next = refl; open_it = refl }) refl
     (sym (first_said p a rule.Port kind.Input [] (fill (behind kind.Input) ws ++ rest) d refl refl refl) ∙ e))
@@ -183,11 +184,11 @@ unlike false xs ys t n = λ e. false≢true (sym t ∙ (bytes_eq-Decides xs ys).
 new_so : (ports : List Port) (name : List ℕ) → is_new ports name ≡ true → AllByRecursion (λ x. x ≢ name) (names_of ports)
 new_so [] name h = tt
 new_so (p ∷ ps) name h =
-    let b = both_true (not (bytes_eq p.name name)) (is_new ps name) h in
+    let b = both (not (bytes_eq p.name name)) (is_new ps name) h in
     (unlike (bytes_eq p.name name) p.name name refl b.0, new_so ps name b.1)
 
 record PortNamed (ins outs : List Port) (name : List ℕ) : Type 0 where
-  pub front : is_named (codes "p_") name ≡ true
+  pub front : has_prefix (codes "p_") name ≡ true
   pub inputs : is_new ins name ≡ true
   pub outputs : is_new outs name ≡ true
 
@@ -195,9 +196,9 @@ all_three : (a b c : Bool) → (a && b && c) ≡ true → (a ≡ true) × (b ≡
 all_three true true true h = (refl, refl, refl)
 all_three _ _ _ h = cc
 
-port_named : (ins outs : List Port) (name : List ℕ) → (is_named (codes "p_") name && is_new ins name && is_new outs name) ≡ true → PortNamed ins outs name
+port_named : (ins outs : List Port) (name : List ℕ) → (has_prefix (codes "p_") name && is_new ins name && is_new outs name) ≡ true → PortNamed ins outs name
 port_named ins outs name h =
-    let t = all_three (is_named (codes "p_") name) (is_new ins name) (is_new outs name) h in
+    let t = all_three (has_prefix (codes "p_") name) (is_new ins name) (is_new outs name) h in
     record { front = t.0; inputs = t.1; outputs = t.2 }
 
 -- ---- the ports behind the first input
@@ -294,7 +295,7 @@ input_by name i is outs high low word after None w e = cc
 input_by name i is outs high low word after (Some width) w e =
     let p : Progress = headed name (i ∷ is) outs in
     let g = guarded (is_none outs && is_port_name p word) (with_input p word width) after e in
-    let b = both_true (is_none outs) (is_port_name p word) g.holds in
+    let b = both (is_none outs) (is_port_name p word) g.holds in
     let n = port_named (i ∷ is) outs word b.1 in
     let port : Port = record { name = word; width = width } in
     let k = held (is_name word)
@@ -448,7 +449,7 @@ pub record HeadRead (q : Progress) (ss : List Sign) : Type 0 where
   pub name : List ℕ
   pub rest : List Sign
   pub next : Seen
-  pub front : is_named (codes "m_") name ≡ true
+  pub front : has_prefix (codes "m_") name ≡ true
   pub form : is_name name ≡ true
   pub split : ss ≡ head_signs name ++ (reset_signs ++ rest)
   pub goes : said (headed name (reset_port ∷ []) []) next rest ≡ Some q
@@ -462,7 +463,7 @@ record OneBit (high low word name : List ℕ) : Type 0 where
 
 one_bit : (high low word name : List ℕ) (width : ℕ) → width_of high low ≡ Some width → (bytes_eq word name && (width == 1)) ≡ true → OneBit high low word name
 one_bit high low word name width w h =
-    let b = both_true (bytes_eq word name) (width == 1) h in
+    let b = both (bytes_eq word name) (width == 1) h in
     let one : width ≡ 1 = eq_of width 1 b.1 in
     let r : IsRangeIn high low width = range_is high low width w in
     let same : word ≡ name = (bytes_eq-Decides word name).0 b.0 in
@@ -492,7 +493,7 @@ reset_by : (name high low word : List ℕ) (after : Progress) (o : Option ℕ) �
 reset_by name high low word after None w e = cc
 reset_by name high low word after (Some width) w e =
     let g = guarded (bytes_eq word (codes "reset") && (width == 1)) (with_input (headed name [] []) word width) after e in
-    let b = both_true (bytes_eq word (codes "reset")) (width == 1) g.holds in
+    let b = both (bytes_eq word (codes "reset")) (width == 1) g.holds in
     let k = held (is_name word)
     (record (headed name [] []) { inputs = record { name = word; width = width } ∷ []; widths = width ∷ []; sources = 0 + 1; next_register = 0 + 1; next_cell = 0 + 1 }) after g.goes in
     let bit = one_bit high low word (codes "reset") width w g.holds in
@@ -513,7 +514,7 @@ no_item (update clock reg next) name after e =
     let t : 0 < 0 = (update_taken (headed name [] []) after clock reg next (omega arith) (omega arith) e).room in absurd (omega arith)
 no_item ending name after e = cc
 
-by_reset : (name : List ℕ) (q : Progress) (ss front ts : List Sign) → is_named (codes "m_") name ≡ true → is_name name ≡ true → ss ≡ head_signs name ++ front
+by_reset : (name : List ℕ) (q : Progress) (ss front ts : List Sign) → has_prefix (codes "m_") name ≡ true → is_name name ≡ true → ss ≡ head_signs name ++ front
     → front ≡ plain kind.Comma ∷ ts → Ported kind.Input (headed name [] []) q ts → HeadRead q ss
 by_reset name q ss front ts f n s k h =
     let t = reset_by name h.high h.low h.name h.after (width_of h.high h.low) refl h.taken in
@@ -530,7 +531,7 @@ by_reset name q ss front ts f n s k h =
       bare = h.bare;
     }
 
-by_clock : (name : List ℕ) (q : Progress) (ss ts : List Sign) → is_named (codes "m_") name ≡ true → is_name name ≡ true
+by_clock : (name : List ℕ) (q : Progress) (ss ts : List Sign) → has_prefix (codes "m_") name ≡ true → is_name name ≡ true
     → ss ≡ (plain kind.Module ∷ named name ∷ plain kind.OpenParen ∷ []) ++ ts → Ported kind.Input (record at_first { name = Some name }) q ts → HeadRead q ss
 by_clock name q ss ts f n s h =
     let t = clock_by name h.high h.low h.name h.after (width_of h.high h.low) refl h.taken in
@@ -546,15 +547,15 @@ by_clock name q ss ts f n s h =
 abbrev titled : List ℕ → Seen
 titled name = record { state = record { first = kind.Module; done = 2 }; head = kind.Name; form = kind.Module; fourth = []; third = []; second = []; last = name }
 
-by_title : (k : Kind) (ws : List (List ℕ)) (rest : List Sign) (w : List ℕ) (q : Progress) → same_rule rule.Text (rule_of k) ≡ true → AllByRecursion Bare rest
+by_title : (k : Kind) (ws : List (List ℕ)) (rest : List Sign) (w : List ℕ) (q : Progress) → same_rule rule.Text (rule_begun k) ≡ true → AllByRecursion Bare rest
     → said at_first seen_start (record { kind = k; word = cond (is_word k) w [] } ∷ (fill (behind k) ws ++ rest)) ≡ Some q
     → HeadRead q (record { kind = k; word = cond (is_word k) w [] } ∷ (fill (behind k) ws ++ rest))
-unfolding step due_by
+unfolding next_state due_by
 by_title kind.Module ws rest w q t b e =
     let name : List ℕ = front ws in
     let h = then_of (due_name at_first name) (λ r. said r (titled name) rest) q e in
-    let k = held (is_named (codes "m_") name && is_name name) (record at_first { name = Some name }) h.after h.taken in
-    let c = both_true (is_named (codes "m_") name) (is_name name) k.holds in
+    let k = held (has_prefix (codes "m_") name && is_name name) (record at_first { name = Some name }) h.after h.taken in
+    let c = both (has_prefix (codes "m_") name) (is_name name) k.holds in
     port_heard (λ ts. rest ≡ ts → HeadRead q (plain kind.Module ∷ named name ∷ plain kind.OpenParen ∷ rest)) (record at_first { name = Some name }) (titled name) rest q
     (record { none = refl; next = refl; open_it = refl }) b (subst (λ x. said x (titled name) rest ≡ Some q) (sym k.same) h.goes)
     (λ ts p s. by_clock name q (plain kind.Module ∷ named name ∷ plain kind.OpenParen ∷ rest) ts c.0 c.1 (ap (λ xs. plain kind.Module ∷ named name ∷ plain kind.OpenParen ∷ xs) s) p)

@@ -7,7 +7,7 @@ use Rattle.ver_text.specs.declared.kind.Rule.{Rule}
 use Rattle.ver_text.specs.declared.kind.Rule.TheVariants as rule
 use Rattle.ver_text.specs.declared.progress.Progress.{Progress}
 use Rattle.ver_text.specs.Kinds.{is_word, same_rule}
-use Rattle.ver_text.specs.Grammar.{behind, rule_of, step}
+use Rattle.ver_text.specs.Grammar.{behind, rule_begun, next_state}
 use Rattle.ver_text.specs.Due.{due_by, due_register, due_wire, due_assignment, due_update, due_end, target, width_of}
 use Rattle.ver_text.specs.Spelling.{Sign}
 use Rattle.ver_text.proofs.Signs.{Seen, said}
@@ -149,11 +149,11 @@ valuing form done fourth third second last = record {
 abbrev assigned_to : List ℕ → List Sign → List Sign
 assigned_to name ss = plain kind.Assign ∷ named name ∷ plain kind.Becomes ∷ ss
 
-after_name : (k : Kind) (ws : List (List ℕ)) (rest : List Sign) (name x w : List ℕ) (p : Progress) (a : Seen) (q : Progress) → same_rule rule.AfterName (rule_of k) ≡ true
+after_name : (k : Kind) (ws : List (List ℕ)) (rest : List Sign) (name x w : List ℕ) (p : Progress) (a : Seen) (q : Progress) → same_rule rule.AfterName (rule_begun k) ≡ true
     → AllByRecursion Bare rest
     → said p (naming a name x) (record { kind = k; word = cond (is_word k) w [] } ∷ (fill (behind k) ws ++ rest)) ≡ Some q
     → Heard p q (assigned_to name (named x ∷ record { kind = k; word = cond (is_word k) w [] } ∷ (fill (behind k) ws ++ rest)))
-unfolding step due_by
+unfolding next_state due_by
 after_name kind.Semicolon ws rest name x w p a q t b e =
     item_heard (value kind.Semicolon a.second a.last name x) (valuing kind.Semicolon 0 a.second a.last name x) p q _ rest b (record { none = refl; next = refl; open_it = refl }) refl e
 after_name kind.And ws rest name x w p a q t b e =
@@ -184,11 +184,11 @@ name_heard p a name x ss q b e =
     let Q : List Sign → Type 0 = λ ts. said p (naming a name x) ts ≡ Some q in
     subst P (sym c.split) (after_name c.kind c.words c.rest name x c.word p a q c.fits c.bare (subst Q c.split e))
 
-expression : (k : Kind) (ws : List (List ℕ)) (rest : List Sign) (name w : List ℕ) (p : Progress) (a : Seen) (q : Progress) → same_rule rule.Expression (rule_of k) ≡ true
+expression : (k : Kind) (ws : List (List ℕ)) (rest : List Sign) (name w : List ℕ) (p : Progress) (a : Seen) (q : Progress) → same_rule rule.Expression (rule_begun k) ≡ true
     → AllByRecursion Bare rest
     → said p (assigning a name) (record { kind = k; word = cond (is_word k) w [] } ∷ (fill (behind k) ws ++ rest)) ≡ Some q
     → Heard p q (assigned_to name (record { kind = k; word = cond (is_word k) w [] } ∷ (fill (behind k) ws ++ rest)))
-unfolding step due_by
+unfolding next_state due_by
 expression kind.Literal ws rest name w p a q t b e =
     item_heard (value kind.Literal a.second a.last name w) (valuing kind.Literal 1 a.second a.last name w) p q _ rest b (record { none = refl; next = refl; open_it = refl }) refl e
 expression kind.Tilde ws rest name w p a q t b e =
@@ -229,11 +229,11 @@ unfolding due_by
 end_goes p a rest q true t e = e
 end_goes p a rest q false t e = cc
 
-by_kind : (k : Kind) (ws : List (List ℕ)) (rest : List Sign) (w : List ℕ) (p : Progress) (a : Seen) (q : Progress) → Boundary a rule.Item → same_rule rule.Item (rule_of k) ≡ true
+by_kind : (k : Kind) (ws : List (List ℕ)) (rest : List Sign) (w : List ℕ) (p : Progress) (a : Seen) (q : Progress) → Boundary a rule.Item → same_rule rule.Item (rule_begun k) ≡ true
     → AllByRecursion Bare rest
     → said p a (record { kind = k; word = cond (is_word k) w [] } ∷ (fill (behind k) ws ++ rest)) ≡ Some q
     → Heard p q (record { kind = k; word = cond (is_word k) w [] } ∷ (fill (behind k) ws ++ rest))
-unfolding step due_by
+unfolding next_state due_by
 by_kind kind.Reg ws rest w p a q d t b e =
     item_heard (register (front ws) (front (tail ws)) (front (tail (tail ws)))) (behind_item kind.Reg 7 a.last (front ws) (front (tail ws)) (front (tail (tail ws)))) p q _ rest b
     (record { none = refl; next = refl; open_it = refl }) refl

@@ -5,6 +5,7 @@ use Rattle.std.specs.List.{AllByRecursion}
 use Rattle.std.proofs.lemmas.Bool.{false≢true}
 use Rattle.std.proofs.lemmas.Bool.Decides.{nat_tests}
 use Rattle.std.proofs.lemmas.List.{append-nil}
+use Rattle.dip_lists.proofs.Tests.{both}
 use Rattle.net_cells.specs.declared.netlist.Port.{Port}
 use Rattle.net_cells.specs.declared.netlist.Reg.{Reg}
 use Rattle.net_cells.specs.declared.netlist.Cell.{Cell}
@@ -18,7 +19,7 @@ use Rattle.ver_text.specs.Due.{takes_registers, takes_wires, has_values, is_none
 use Rattle.ver_text.specs.Spelling.{Sign, register_name, cell_name}
 use Rattle.ver_text.proofs.Signs.{Seen, said}
 use Rattle.ver_text.proofs.Segments.{Boundary}
-use Rattle.ver_text.proofs.Exact.{both_true, lt_of, eq_of}
+use Rattle.ver_text.proofs.Exact.{lt_of, eq_of}
 use Rattle.ver_text.proofs.CellParts.{celled, with_cells, no_cells, more_cells}
 use Rattle.ver_text.proofs.ValueParts.{Full, shown, declared_as, updated, with_outputs, with_updates, no_updates, more_updates}
 use Rattle.ver_text.proofs.Told.{Bare}
@@ -103,7 +104,7 @@ pub record Updating (p q : Progress) (ss : List Sign) : Type 0 where
 
 all_valued : (p : Progress) → has_values p ≡ true → Full p
 all_valued p h =
-    let b = both_true (p.next_cell == length p.widths) (length p.outputs == length p.declared) h in
+    let b = both (p.next_cell == length p.widths) (length p.outputs == length p.declared) h in
     record { cells = eq_of p.next_cell (length p.widths) b.0; outputs = eq_of (length p.outputs) (length p.declared) b.1 }
 
 no_more : (p q after : Progress) (ss rest : List Sign) → ss ≡ plain kind.Endmodule ∷ rest → EndTaken p after → (rest ≡ []) × (after ≡ q) → Updating p q ss

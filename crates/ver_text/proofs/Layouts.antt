@@ -4,6 +4,7 @@ use Rattle.std.specs.Prelude.{codes, slice_index, nat_eq}
 use Rattle.std.specs.List.{AllByRecursion, starts_with}
 use Rattle.std.proofs.lemmas.List.{append-nil, length-map}
 use Rattle.std.proofs.lemmas.List.Elements.{recursion_from_All}
+use Rattle.dip_lists.proofs.Tests.{both}
 use Rattle.dip_sets.specs.Names.{is_name}
 use Rattle.net_cells.specs.declared.netlist.Port.{Port}
 use Rattle.net_cells.specs.declared.netlist.Reg.{Reg}
@@ -17,7 +18,7 @@ use Rattle.ver_text.specs.Tokens.{tokens_from}
 use Rattle.ver_text.specs.Spelling as spec
 use Rattle.ver_text.specs.Spelling.{Piece, signs, laid, header, declarations, values, layout, spelling}
 use Rattle.ver_text.specs.TextLaw.{HasNames, Spells, PrintedSpells, PrintedIsRead, sign_of}
-use Rattle.ver_text.proofs.Exact.{both_true, eq_of}
+use Rattle.ver_text.proofs.Exact.{eq_of}
 use Rattle.ver_text.proofs.Lexing.{scan_all}
 use Rattle.ver_text.proofs.Words.{IsWord, name_word}
 use Rattle.ver_text.proofs.Printed.{Stand, join, to_scans, joined, all_joined, all_lines_are, all_signs_are, three_laid, three_signs, laid-append, Lexable, Begins, inputs_begin, outs_begin, heading_stands, close_stands, end_stands, regs_stand, wires_stand, cells_stand, outputs_stand, updates_stand, inputs_stand, outs_stand}
@@ -31,10 +32,10 @@ use Rattle.ver_text.proofs.Spells.{spelled_read, first_input}
 
 front_two : (x y : ℕ) (name : List ℕ) → starts_with nat_eq name (x ∷ y ∷ []) ≡ true → (cs : List ℕ) × (name ≡ x ∷ y ∷ cs)
 front_two x y [] h = cc
-front_two x y (c ∷ []) h = let t = both_true (nat_eq x c) _ h in let f : false ≡ true = t.1 in cc
+front_two x y (c ∷ []) h = let t = both (nat_eq x c) _ h in let f : false ≡ true = t.1 in cc
 front_two x y (c ∷ d ∷ cs) h =
-    let t = both_true (nat_eq x c) _ h in
-    let u = both_true (nat_eq y d) _ t.1 in
+    let t = both (nat_eq x c) _ h in
+    let u = both (nat_eq y d) _ t.1 in
     let e : c ≡ x = sym (eq_of x c t.0) in
     let f : d ≡ y = sym (eq_of y d u.0) in
     (cs, ap (λ z. z ∷ d ∷ cs) e ∙ ap (λ z. x ∷ z ∷ cs) f)
@@ -85,20 +86,20 @@ abbrev items_of : Netlist → List Piece
 items_of n = joined (spec.registers (length n.inputs) n.regs) ++ (joined (spec.wires (sources n) n.cells) ++ values_of n)
 
 abbrev pieces_of : Netlist → List Piece
-pieces_of n = spec.heading n.name ++ (joined (spec.inputs n.inputs) ++ (joined (spec.outputs (widths n) n.outputs) ++ (close_pieces ++ items_of n)))
+pieces_of n = spec.heading n.name ++ (joined (spec.input_parts n.inputs) ++ (joined (spec.output_parts (widths n) n.outputs) ++ (close_pieces ++ items_of n)))
 
 pieces_are : (n : Netlist) → all_joined (header n) ++ all_joined (declarations n) ++ all_joined (values n) ≡ pieces_of n
 unfolding header declarations values
 pieces_are n =
-    regroup (spec.heading n.name) (joined (spec.inputs n.inputs)) (joined (spec.outputs (widths n) n.outputs)) close_pieces
+    regroup (spec.heading n.name) (joined (spec.input_parts n.inputs)) (joined (spec.output_parts (widths n) n.outputs)) close_pieces
     (joined (spec.registers (length n.inputs) n.regs)) (joined (spec.wires (sources n) n.cells)) (joined (spec.cell_values n (sources n) n.cells))
     (joined (spec.output_values n n.outputs)) (joined (spec.updates n (length n.inputs) n.regs)) end_pieces
 
 layout_is : (n : Netlist) → layout n ≡ laid (pieces_of n)
 unfolding layout
 layout_is n =
-    ap (λ t. t ++ spec.all_lines (declarations n) ++ spec.all_lines (values n)) (all_lines_are (header n))
-    ∙ (ap (λ t. laid (all_joined (header n)) ++ t ++ spec.all_lines (values n)) (all_lines_are (declarations n))
+    ap (λ t. t ++ spec.group_lines (declarations n) ++ spec.group_lines (values n)) (all_lines_are (header n))
+    ∙ (ap (λ t. laid (all_joined (header n)) ++ t ++ spec.group_lines (values n)) (all_lines_are (declarations n))
     ∙ (ap (λ t. laid (all_joined (header n)) ++ laid (all_joined (declarations n)) ++ t) (all_lines_are (values n))
     ∙ (three_laid (all_joined (header n)) (all_joined (declarations n)) (all_joined (values n)) ∙ ap laid (pieces_are n))))
 
@@ -149,8 +150,8 @@ all_stand : (name : List ℕ) (is : List Port) (rs : List Reg) (cs : List Cell) 
     → Stand (pieces_of (made name is rs cs os)) []
 all_stand name is rs cs os g l =
     let n : Netlist = made name is rs cs os in
-    let outs : List Piece = joined (spec.outputs (widths n) os) in
-    let ins : List Piece = joined (spec.inputs n.inputs) in
+    let outs : List Piece = joined (spec.output_parts (widths n) os) in
+    let ins : List Piece = joined (spec.input_parts n.inputs) in
     let behind : List Piece = close_pieces ++ items_of n in
     let closed : Begins (laid behind ++ []) = record { byte = 41; rest = _; is = refl; outside = refl } in
     let outs_at : Begins (laid (outs ++ behind) ++ []) = begins_on outs behind [] (outs_begin os (widths n) (laid behind ++ []) closed) in

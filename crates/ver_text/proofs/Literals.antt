@@ -1,6 +1,6 @@
 -- A written literal is read back.
 use Rattle.std.proofs.Common.{ℕ, zero, suc, ◌≡◌, ◌+◌, ◌*◌, ◌/◌, ◌%◌, ◌^◌, ◌<◌, ◌≤◌, List, [], ◌∷◌, ◌++◌, length, drop, true, Option, Some, refl, ap, sym, ◌∙◌, append_assoc, length-append, arith}
-use Rattle.std.specs.Prelude.{codes, decimal, ◌==◌}
+use Rattle.std.specs.Prelude.{codes, decimal}
 use Rattle.std.specs.List.{prefix_len}
 use Rattle.std.proofs.lemmas.Bool.Decides.{nat_tests}
 use Rattle.std.proofs.lemmas.List.{drop_at}
@@ -10,8 +10,9 @@ use Rattle.std.proofs.Math.Pow.{pow_mono}
 use Rattle.std.proofs.Math.Nat.{add-mul, mul_assoc, mul-suc, mod-eq_of_lt}
 use Rattle.std.proofs.lemmas.Fmt.{decimal_by_steps}
 use Rattle.std.proofs.lemmas.Grind.{pow_more}
+use Rattle.dip_lists.proofs.Tests.{own_number}
 use Rattle.ver_text.specs.Lexemes.{is_digit}
-use Rattle.ver_text.specs.Numerals.{hex_digit, hexadecimal, digit_value, numeral, literal, literal_of}
+use Rattle.ver_text.specs.Numerals.{hex_digit, hex_digits, digit_value, numeral, literal, literal_of}
 use Rattle.ver_text.proofs.Readback.{below, bytes_same}
 
 pub hex_is : (d : ℕ) → d < 16 → digit_value (hex_digit d) ≡ d
@@ -45,22 +46,19 @@ step_whole s k value =
 hex_step : (s d : ℕ) (cs : List ℕ) (o : Option ℕ) → d < 16 → s * 16 + d < 2 ^ 64 → numeral 16 (s * 16 + d) cs ≡ o → numeral 16 s (hex_digit d ∷ cs) ≡ o
 hex_step s d cs o h l e = rw (hex_is d h) (rw (below (s * 16 + d) l) e)
 
-hex_read : (k s value : ℕ) → s * 2 ^ (4 * k) + value % 2 ^ (4 * k) < 2 ^ 64 → numeral 16 s (hexadecimal k value) ≡ Some (s * 2 ^ (4 * k) + value % 2 ^ (4 * k))
+hex_read : (k s value : ℕ) → s * 2 ^ (4 * k) + value % 2 ^ (4 * k) < 2 ^ 64 → numeral 16 s (hex_digits k value) ≡ Some (s * 2 ^ (4 * k) + value % 2 ^ (4 * k))
 hex_read zero s value h = let z : value % 1 < 1 = mod_below value 1 (omega arith) in let e : s ≡ s * 1 + value % 1 = omega arith in ap (λ x. Some x) e
 hex_read (suc k) s value h =
     let d : ℕ = value / 2 ^ (4 * k) % 16 in
     let w : (s * 16 + d) * 2 ^ (4 * k) + value % 2 ^ (4 * k) ≡ s * 2 ^ (4 * suc k) + value % 2 ^ (4 * suc k) = step_whole s k value in
     let l : (s * 16 + d) * 2 ^ (4 * k) + value % 2 ^ (4 * k) < 2 ^ 64 = omega arith in
     let t : s * 16 + d ≤ (s * 16 + d) * 2 ^ (4 * k) = le_times (s * 16 + d) (2 ^ (4 * k)) (pow_pos (4 * k)) in
-    hex_step s d (hexadecimal k value) _ (mod_below (value / 2 ^ (4 * k)) 16 (omega arith)) (omega arith) (hex_read k (s * 16 + d) value l ∙ ap (λ x. Some x) w)
+    hex_step s d (hex_digits k value) _ (mod_below (value / 2 ^ (4 * k)) 16 (omega arith)) (omega arith) (hex_read k (s * 16 + d) value l ∙ ap (λ x. Some x) w)
 
 -- ---- the width before them
 
 digit_true : (d : ℕ) → d < 10 → is_digit (48 + d) ≡ true
 digit_true d h = grind (arith, nat_tests)
-
-same_true : (n : ℕ) → (n == n) ≡ true
-same_true n = grind (arith, nat_tests)
 
 abbrev AreDigits : ℕ → List ℕ → Type 0
 AreDigits n ds = prefix_len is_digit ds ≡ length ds
@@ -69,7 +67,7 @@ single : (n : ℕ) → n < 10 → AreDigits n ((48 + n) ∷ [])
 single n h = rw (digit_true n h) refl
 
 pub all_then : (ds cs : List ℕ) → prefix_len is_digit ds ≡ length ds → prefix_len is_digit (ds ++ cs) ≡ length ds + prefix_len is_digit cs
-all_then ds cs e = prefix_len-append is_digit ds cs ∙ rw e (rw (same_true (length ds)) refl)
+all_then ds cs e = prefix_len-append is_digit ds cs ∙ rw e (rw (own_number (length ds)) refl)
 
 more : (n : ℕ) (ds : List ℕ) → 10 ≤ n → AreDigits (n / 10) ds → AreDigits n (ds ++ ((48 + n % 10) ∷ []))
 more n ds h e =
@@ -95,7 +93,7 @@ fits width value h =
 pub literal_read : (width value : ℕ) → value < 2 ^ width → width ≤ 64 → literal_of width (literal width value) ≡ Some value
 unfolding literal literal_of
 literal_read width value h l =
-    let digits : List ℕ = hexadecimal ((width + 3) / 4) value in
+    let digits : List ℕ = hex_digits ((width + 3) / 4) value in
     let small : 2 ^ width ≤ 2 ^ 64 = pow_mono l in
     let f : value % 2 ^ (4 * ((width + 3) / 4)) ≡ value = fits width value h in
     let total : 0 * 2 ^ (4 * ((width + 3) / 4)) + value % 2 ^ (4 * ((width + 3) / 4)) ≡ value = omega arith in

@@ -8,7 +8,7 @@ use Rattle.std.proofs.lemmas.Slice.Eq.{bytes_eq-Decides}
 use Rattle.net_cells.specs.declared.netlist.Port.{Port}
 use Rattle.ver_text.specs.declared.progress.Progress.{Progress}
 use Rattle.ver_text.specs.Numerals.{numbered}
-use Rattle.ver_text.specs.Due.{place_from, if_within, net_named}
+use Rattle.ver_text.specs.Due.{port_place_from, if_within, net_named}
 use Rattle.ver_text.specs.Spelling.{name_in, register_name, cell_name}
 use Rattle.ver_text.proofs.Readback.{number_read}
 use Rattle.ver_text.proofs.Exact.{lt_to, le_to, join_true}
@@ -37,7 +37,7 @@ same_name p port e = let same : p ≡ port = cc in ap (λ (x : Port). x.name) sa
 pub differ : (xs ys : List ℕ) → xs ≢ ys → bytes_eq xs ys ≡ false
 differ xs ys n = differ_by (bytes_eq xs ys) xs ys refl n
 
-place_is : (ports : List Port) (at k : ℕ) (port : Port) → Distinct ports → slice_get ports k ≡ Some port → place_from at port.name ports ≡ Some (at + k)
+place_is : (ports : List Port) (at k : ℕ) (port : Port) → Distinct ports → slice_get ports k ≡ Some port → port_place_from at port.name ports ≡ Some (at + k)
 place_is [] at k port d e = cc
 place_is (p ∷ ps) at zero port d e =
     let same : p.name ≡ port.name = same_name p port e in

@@ -10,7 +10,7 @@ use Rattle.net_cells.specs.Rules.{IsWidth}
 use Rattle.ver_text.specs.declared.kind.Kind.TheVariants as kind
 use Rattle.ver_text.specs.declared.kind.Rule.TheVariants as rule
 use Rattle.ver_text.specs.declared.progress.Progress.{Progress}
-use Rattle.ver_text.specs.Due.{due_by, is_named, is_new, at_first}
+use Rattle.ver_text.specs.Due.{due_by, has_prefix, is_new, at_first}
 use Rattle.ver_text.specs.Spelling as spec
 use Rattle.ver_text.specs.Spelling.{Sign, signs, part_signs}
 use Rattle.ver_text.proofs.Signs.{Seen, said}
@@ -77,7 +77,7 @@ names_more (p ∷ ps) more = ap (λ ns. p.name ∷ ns) (names_more ps more)
 
 -- a port that may be read
 pub record IsPort (p : Port) : Type 0 where
-  pub front : is_named (codes "p_") p.name ≡ true
+  pub front : has_prefix (codes "p_") p.name ≡ true
   pub form : is_name p.name ≡ true
   pub wide : IsWidth p.width
 
@@ -115,12 +115,12 @@ names_step ins ps p others h =
 pub inputs_said : (ps : List Port) (name : List ℕ) (i : Port) (is : List Port) (others : List (List ℕ)) (a : Seen) (rest : List Sign) (q : Progress) → Boundary a rule.MorePorts
     → AllByRecursion IsPort ps → Apart (names_of (i ∷ is) ++ (names_of ps ++ others))
     → ((b : Seen) → Boundary b rule.MorePorts → said (headed name ((i ∷ is) ++ ps) []) b rest ≡ Some q)
-    → said (headed name (i ∷ is) []) a (part_signs (spec.inputs ps) ++ rest) ≡ Some q
+    → said (headed name (i ∷ is) []) a (part_signs (spec.input_parts ps) ++ rest) ≡ Some q
 inputs_said [] name i is others a rest q d h n go = said_same _ _ a rest q (ap (λ xs. headed name xs []) (append-nil (i ∷ is))) (go a d)
 inputs_said (p ∷ ps) name i is others a rest q d h n go =
-    let tail : List Sign = part_signs (spec.inputs ps) ++ rest in
+    let tail : List Sign = part_signs (spec.input_parts ps) ++ rest in
     let new : is_new (i ∷ is) p.name ≡ true = new_is (i ∷ is) p.name (apart_front (names_of (i ∷ is)) (names_of ps ++ others) p.name n) in
-    ap (λ ss. said (headed name (i ∷ is) []) a ss) (append_assoc (signs (spec.apart kind.Comma ∷ spec.port kind.Input p.width p.name)) (part_signs (spec.inputs ps)) rest)
+    ap (λ ss. said (headed name (i ∷ is) []) a ss) (append_assoc (signs (spec.apart kind.Comma ∷ spec.port_pieces kind.Input p.width p.name)) (part_signs (spec.input_parts ps)) rest)
     ∙ (input_said (headed name (i ∷ is) []) a p.width p.name tail d
     ∙ rw (input_taken name a.last i is p h.0 new)
     (inputs_said ps name i (is ++ p ∷ []) others _ rest q (record { none = refl; next = refl; open_it = refl }) h.1 (names_step (i ∷ is) ps p others n)
@@ -136,17 +136,17 @@ output_taken name w i is outs p h n m = rw (width_read p.width h.wide) (rw h.fro
 pub ports_said : (os : List OutPort) (ws name : List ℕ) (i : Port) (is outs : List Port) (a : Seen) (rest : List Sign) (q : Progress) → Boundary a rule.MorePorts
     → AllByRecursion (λ (o : OutPort). IsPort (declared_as ws o)) os → Apart ((names_of (i ∷ is) ++ names_of outs) ++ map (λ (o : OutPort). o.name) os)
     → ((b : Seen) → Boundary b rule.MorePorts → said (headed name (i ∷ is) (outs ++ map (declared_as ws) os)) b rest ≡ Some q)
-    → said (headed name (i ∷ is) outs) a (part_signs (spec.outputs ws os) ++ rest) ≡ Some q
+    → said (headed name (i ∷ is) outs) a (part_signs (spec.output_parts ws os) ++ rest) ≡ Some q
 ports_said [] ws name i is outs a rest q d h n go = said_same _ _ a rest q (ap (λ xs. headed name (i ∷ is) xs) (append-nil outs)) (go a d)
 ports_said (o ∷ os) ws name i is outs a rest q d h n go =
-    let tail : List Sign = part_signs (spec.outputs ws os) ++ rest in
+    let tail : List Sign = part_signs (spec.output_parts ws os) ++ rest in
     let both = apart_front (names_of (i ∷ is) ++ names_of outs) (map (λ (x : OutPort). x.name) os) o.name n in
     let p : Port = declared_as ws o in
     let e : (names_of (i ∷ is) ++ names_of outs) ++ (o.name ∷ map (λ (x : OutPort). x.name) os) ≡ (names_of (i ∷ is) ++ names_of (outs ++ p ∷ [])) ++ map (λ (x : OutPort). x.name) os =
     sym (ap (λ ns. (names_of (i ∷ is) ++ ns) ++ map (λ (x : OutPort). x.name) os) (names_more outs (p ∷ []))
     ∙ (ap (λ ns. ns ++ map (λ (x : OutPort). x.name) os) (sym (append_assoc (names_of (i ∷ is)) (names_of outs) (o.name ∷ [])))
     ∙ append_assoc (names_of (i ∷ is) ++ names_of outs) (o.name ∷ []) (map (λ (x : OutPort). x.name) os))) in
-    ap (λ ss. said (headed name (i ∷ is) outs) a ss) (append_assoc (signs (spec.apart kind.Comma ∷ spec.port kind.Output p.width p.name)) (part_signs (spec.outputs ws os)) rest)
+    ap (λ ss. said (headed name (i ∷ is) outs) a ss) (append_assoc (signs (spec.apart kind.Comma ∷ spec.port_pieces kind.Output p.width p.name)) (part_signs (spec.output_parts ws os)) rest)
     ∙ (output_said (headed name (i ∷ is) outs) a p.width p.name tail d
     ∙ rw (output_taken name a.last i is outs p h.0 (new_is (i ∷ is) o.name (left_part (λ x. x ≢ o.name) (names_of (i ∷ is)) (names_of outs) both))
     (new_is outs o.name (right_part (λ x. x ≢ o.name) (names_of (i ∷ is)) (names_of outs) both)))
@@ -155,7 +155,7 @@ ports_said (o ∷ os) ws name i is outs a rest q d h n go =
 
 -- ---- the heading and `reset`
 
-name_taken : (name : List ℕ) → is_named (codes "m_") name ≡ true → is_name name ≡ true
+name_taken : (name : List ℕ) → has_prefix (codes "m_") name ≡ true → is_name name ≡ true
     → due_by at_first kind.Name kind.Module [] [] [] name ≡ Some (record at_first { name = Some name })
 unfolding due_by
 name_taken name f n = rw f (rw n refl)
@@ -168,11 +168,11 @@ reset_taken : (name w : List ℕ) → due_by (headed name [] []) kind.Input kind
 unfolding due_by
 reset_taken name w = rw (width_read 1 (omega arith, omega arith)) refl
 
-pub start_said : (name : List ℕ) (rest : List Sign) (q : Progress) → is_named (codes "m_") name ≡ true → is_name name ≡ true
+pub start_said : (name : List ℕ) (rest : List Sign) (q : Progress) → has_prefix (codes "m_") name ≡ true → is_name name ≡ true
     → ((b : Seen) → Boundary b rule.MorePorts → said (headed name (record { name = codes "reset"; width = 1 } ∷ []) []) b rest ≡ Some q)
-    → said at_first seen_start (signs (spec.heading name) ++ (signs (spec.apart kind.Comma ∷ spec.port kind.Input 1 (codes "reset")) ++ rest)) ≡ Some q
+    → said at_first seen_start (signs (spec.heading name) ++ (signs (spec.apart kind.Comma ∷ spec.port_pieces kind.Input 1 (codes "reset")) ++ rest)) ≡ Some q
 start_said name rest q f n go =
-    heading_said at_first name (signs (spec.apart kind.Comma ∷ spec.port kind.Input 1 (codes "reset")) ++ rest) ∙ rw (name_taken name f n) (rw (clock_taken name)
+    heading_said at_first name (signs (spec.apart kind.Comma ∷ spec.port_pieces kind.Input 1 (codes "reset")) ++ rest) ∙ rw (name_taken name f n) (rw (clock_taken name)
     (input_said (headed name [] [])
     (record { state = record { first = kind.Input; done = 6 }; head = kind.Input; form = kind.Input; fourth = name; third = decimal 0; second = codes "0"; last = codes "clock" })
     1 (codes "reset") rest (record { none = refl; next = refl; open_it = refl })

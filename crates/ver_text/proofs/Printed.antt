@@ -14,7 +14,7 @@ use Rattle.net_cells.specs.declared.netlist.Netlist.{Netlist}
 use Rattle.net_cells.specs.Rules.{IsCell, IsWidth, HasWidth, widths, sources}
 use Rattle.ver_text.specs.declared.kind.Kind.TheVariants as kind
 use Rattle.ver_text.specs.Spelling as spec
-use Rattle.ver_text.specs.Spelling.{Piece, Sign, signs, part_signs, all_signs, laid, lines, all_lines, net_name, name_in, made_name, register_name, cell_name, expression, assignment, update}
+use Rattle.ver_text.specs.Spelling.{Piece, Sign, signs, part_signs, all_signs, laid, lines, group_lines, net_name, name_in, made_name, register_name, cell_name, expression, assignment, update}
 use Rattle.ver_text.proofs.NetNames.{at_place}
 use Rattle.ver_text.proofs.Words.{IsWord, tight_is, apart_is, number_is, nought_is, literal_is, register_word, cell_word}
 use Rattle.ver_text.proofs.Lexing as lex
@@ -58,10 +58,10 @@ lines_are : (parts : List (List Piece)) → lines parts ≡ laid (joined parts)
 lines_are [] = refl
 lines_are (part ∷ parts) = ap (λ t. laid part ++ t) (lines_are parts) ∙ sym (laid-append part (joined parts))
 
-pub all_lines_are : (gs : List (List (List Piece))) → all_lines gs ≡ laid (all_joined gs)
+pub all_lines_are : (gs : List (List (List Piece))) → group_lines gs ≡ laid (all_joined gs)
 all_lines_are [] = refl
 all_lines_are (g ∷ gs) =
-    ap (λ t. t ++ all_lines gs) (lines_are g) ∙ (ap (λ t. laid (joined g) ++ t) (all_lines_are gs) ∙ sym (laid-append (joined g) (all_joined gs)))
+    ap (λ t. t ++ group_lines gs) (lines_are g) ∙ (ap (λ t. laid (joined g) ++ t) (all_lines_are gs) ∙ sym (laid-append (joined g) (all_joined gs)))
 
 part_signs_are : (parts : List (List Piece)) → part_signs parts ≡ signs (joined parts)
 part_signs_are [] = refl
@@ -89,10 +89,10 @@ reg_stands width name rest h w = (lex.apart_Reg _, (lex.tight_OpenBracket _, (nu
 wire_stands : (width : ℕ) (name rest : List ℕ) → IsWidth width → IsWord name → Stand (spec.net kind.Wire width name) rest
 wire_stands width name rest h w = (lex.apart_Wire _, (lex.tight_OpenBracket _, (number_is (width - 1) _ 58 (width_low width h) refl refl, (lex.tight_Colon _, (nought_is _, (lex.apart_CloseBracket _, (tight_is name _ 59 w refl, (lex.last_Semicolon _, tt))))))))
 
-input_stands : (width b : ℕ) (name rest : List ℕ) → IsWidth width → IsWord name → is_name_byte b ≡ false → Stand (spec.apart kind.Comma ∷ spec.port kind.Input width name) (b ∷ rest)
+input_stands : (width b : ℕ) (name rest : List ℕ) → IsWidth width → IsWord name → is_name_byte b ≡ false → Stand (spec.apart kind.Comma ∷ spec.port_pieces kind.Input width name) (b ∷ rest)
 input_stands width b name rest h w e = (lex.apart_Comma _, (lex.apart_Input _, (lex.tight_OpenBracket _, (number_is (width - 1) _ 58 (width_low width h) refl refl, (lex.tight_Colon _, (nought_is _, (lex.apart_CloseBracket _, (tight_is name _ b w e, tt))))))))
 
-output_stands : (width b : ℕ) (name rest : List ℕ) → IsWidth width → IsWord name → is_name_byte b ≡ false → Stand (spec.apart kind.Comma ∷ spec.port kind.Output width name) (b ∷ rest)
+output_stands : (width b : ℕ) (name rest : List ℕ) → IsWidth width → IsWord name → is_name_byte b ≡ false → Stand (spec.apart kind.Comma ∷ spec.port_pieces kind.Output width name) (b ∷ rest)
 output_stands width b name rest h w e = (lex.apart_Comma _, (lex.apart_Output _, (lex.tight_OpenBracket _, (number_is (width - 1) _ 58 (width_low width h) refl refl, (lex.tight_Colon _, (nought_is _, (lex.apart_CloseBracket _, (tight_is name _ b w e, tt))))))))
 
 clock_word : IsWord (codes "clock")
@@ -209,35 +209,35 @@ pub record Begins (text : List ℕ) : Type 0 where
   pub is : text ≡ byte ∷ rest
   pub outside : is_name_byte byte ≡ false
 
-pub inputs_begin : (ps : List Port) (rest : List ℕ) → Begins rest → Begins (laid (joined (spec.inputs ps)) ++ rest)
+pub inputs_begin : (ps : List Port) (rest : List ℕ) → Begins rest → Begins (laid (joined (spec.input_parts ps)) ++ rest)
 inputs_begin [] rest b = b
 inputs_begin (p ∷ ps) rest b = record { byte = 44; rest = _; is = refl; outside = refl }
 
-pub outs_begin : (os : List OutPort) (ws rest : List ℕ) → Begins rest → Begins (laid (joined (spec.outputs ws os)) ++ rest)
+pub outs_begin : (os : List OutPort) (ws rest : List ℕ) → Begins rest → Begins (laid (joined (spec.output_parts ws os)) ++ rest)
 outs_begin [] ws rest b = b
 outs_begin (o ∷ os) ws rest b = record { byte = 44; rest = _; is = refl; outside = refl }
 
 pub inputs_stand : (ps : List Port) (rest : List ℕ) → Begins rest → AllByRecursion (λ (p : Port). IsWidth p.width) ps → AllByRecursion (λ (p : Port). IsWord p.name) ps
-    → Stand (joined (spec.inputs ps)) rest
+    → Stand (joined (spec.input_parts ps)) rest
 inputs_stand [] rest b w n = tt
 inputs_stand (p ∷ ps) rest b w n =
     let c = inputs_begin ps rest b in
-    join (spec.apart kind.Comma ∷ spec.port kind.Input p.width p.name) (joined (spec.inputs ps)) rest
-    (subst (Stand (spec.apart kind.Comma ∷ spec.port kind.Input p.width p.name)) (sym c.is) (input_stands p.width c.byte p.name c.rest w.0 n.0 c.outside))
+    join (spec.apart kind.Comma ∷ spec.port_pieces kind.Input p.width p.name) (joined (spec.input_parts ps)) rest
+    (subst (Stand (spec.apart kind.Comma ∷ spec.port_pieces kind.Input p.width p.name)) (sym c.is) (input_stands p.width c.byte p.name c.rest w.0 n.0 c.outside))
     (inputs_stand ps rest b w.1 n.1)
 
 pub outs_stand : (os : List OutPort) (ws rest : List ℕ) → Begins rest → AllByRecursion (λ (o : OutPort). IsWidth (slice_index ws o.net)) os
-    → AllByRecursion (λ (o : OutPort). IsWord o.name) os → Stand (joined (spec.outputs ws os)) rest
+    → AllByRecursion (λ (o : OutPort). IsWord o.name) os → Stand (joined (spec.output_parts ws os)) rest
 outs_stand [] ws rest b w n = tt
 outs_stand (o ∷ os) ws rest b w n =
     let c = outs_begin os ws rest b in
-    join (spec.apart kind.Comma ∷ spec.port kind.Output (slice_index ws o.net) o.name) (joined (spec.outputs ws os)) rest
-    (subst (Stand (spec.apart kind.Comma ∷ spec.port kind.Output (slice_index ws o.net) o.name)) (sym c.is)
+    join (spec.apart kind.Comma ∷ spec.port_pieces kind.Output (slice_index ws o.net) o.name) (joined (spec.output_parts ws os)) rest
+    (subst (Stand (spec.apart kind.Comma ∷ spec.port_pieces kind.Output (slice_index ws o.net) o.name)) (sym c.is)
     (output_stands (slice_index ws o.net) c.byte o.name c.rest w.0 n.0 c.outside))
     (outs_stand os ws rest b w.1 n.1)
 
 pub heading_begins : (ps : List Port) (os : List OutPort) (ws name rest : List ℕ) → Begins rest → IsWord name
-    → Stand (spec.heading name) (laid (joined (spec.inputs ps)) ++ (laid (joined (spec.outputs ws os)) ++ rest))
+    → Stand (spec.heading name) (laid (joined (spec.input_parts ps)) ++ (laid (joined (spec.output_parts ws os)) ++ rest))
 heading_begins ps os ws name rest b w =
-    let c = inputs_begin ps (laid (joined (spec.outputs ws os)) ++ rest) (outs_begin os ws rest b) in
+    let c = inputs_begin ps (laid (joined (spec.output_parts ws os)) ++ rest) (outs_begin os ws rest b) in
     subst (Stand (spec.heading name)) (sym c.is) (heading_stands c.byte name c.rest w c.outside)

@@ -6,7 +6,7 @@ use Rattle.std.proofs.lemmas.Slice.Eq.{bytes_eq-Decides}
 use Rattle.std.proofs.lemmas.Bool.Decides.{nat_tests}
 use Rattle.std.proofs.lemmas.Fmt.{decimal_by_steps}
 use Rattle.net_cells.specs.Rules.{IsWidth}
-use Rattle.ver_text.specs.Numerals.{numeral, digit_value, number_of, number_below, is_numbered}
+use Rattle.ver_text.specs.Numerals.{numeral, digit_value, written_number, number_below, is_numbered}
 use Rattle.ver_text.specs.Due.{width_of}
 
 pub bytes_same : (xs : List ℕ) → bytes_eq xs xs ≡ true
@@ -51,8 +51,8 @@ more n ds h r l =
 pub decimal_read : (n : ℕ) → n < 2 ^ 64 → numeral 10 0 (decimal n) ≡ Some n
 decimal_read n h = decimal_by_steps IsReadAs single more n h h
 
-pub number_read : (n : ℕ) → n < 2 ^ 64 → number_of (decimal n) ≡ Some n
-unfolding number_of
+pub number_read : (n : ℕ) → n < 2 ^ 64 → written_number (decimal n) ≡ Some n
+unfolding written_number
 number_read n h = rw (decimal_read n h) (rw (bytes_same (decimal n)) refl)
 
 pub below_read : (limit n : ℕ) → n < limit → n < 2 ^ 64 → number_below limit (decimal n) ≡ Some n

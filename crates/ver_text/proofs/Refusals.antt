@@ -1,9 +1,9 @@
 -- The first token that the syntax refuses is the first after which no continuation has it.
-use Rattle.std.proofs.Common.{ℕ, zero, suc, ◌≡◌, ◌+◌, List, [], ◌∷◌, ◌++◌, drop, Bool, true, false, cond, Option, Some, None, refl, ap, sym, subst, ◌∙◌, append_assoc, add-one, arith}
-use Rattle.std.specs.Prelude.{slice_get, ◌==◌}
+use Rattle.std.proofs.Common.{ℕ, zero, suc, ◌≡◌, ◌+◌, List, [], ◌∷◌, ◌++◌, drop, Bool, true, false, cond, Option, Some, None, refl, ap, sym, subst, ◌∙◌, append_assoc, add-one}
+use Rattle.std.specs.Prelude.{slice_get}
 use Rattle.std.proofs.lemmas.List.{append-nil}
 use Rattle.std.proofs.lemmas.Bool.{false≢true}
-use Rattle.std.proofs.lemmas.Bool.Decides.{nat_tests}
+use Rattle.dip_lists.proofs.Tests.{own_number}
 use Rattle.ver_text.specs.declared.kind.Kind.{Kind}
 use Rattle.ver_text.specs.declared.kind.Kind.TheVariants.{Name, Number, Literal, Module, Input, Endmodule, OpenParen, CloseParen, OpenBracket, CloseBracket, Semicolon, Colon}
 use Rattle.ver_text.specs.declared.kind.Rule.{Rule}
@@ -11,15 +11,12 @@ use Rattle.ver_text.specs.declared.kind.Rule.TheVariants.{Text, Port, MorePorts,
 use Rattle.ver_text.specs.declared.token.Token.{Token}
 use Rattle.ver_text.specs.declared.grammar.State.{State}
 use Rattle.ver_text.specs.Kinds.{same_kind, same_rule, number_of_kind}
-use Rattle.ver_text.specs.Grammar.{behind, next_rule, rule_of, start, within, step, run, then_run, is_whole, is_whole_text, HasSyntax}
+use Rattle.ver_text.specs.Grammar.{behind, next_rule, rule_begun, start, within, next_state, read_through, then_run, is_whole, is_whole_text, HasSyntax}
 use Rattle.ver_text.specs.Tokens.{refused}
 use Rattle.ver_text.specs.SyntaxLaw.{kinds_of, CanGoOn, IsTold}
 
-same_number : (n : ℕ) → (n == n) ≡ true
-same_number n = grind (arith, nat_tests)
-
 pub same_as_itself : (k : Kind) → same_kind k k ≡ true
-same_as_itself k = same_number (number_of_kind k)
+same_as_itself k = own_number (number_of_kind k)
 
 -- ---- each state can go on
 
@@ -50,22 +47,22 @@ pub record IsDone (s : State) (r : Rule) : Type 0 where
   pub none : slice_get (behind s.first) s.done ≡ None
   pub next : next_rule s.first ≡ r
 
-begins_by : (s : State) (r : Rule) (k : Kind) (wanted : Option Kind) → wanted ≡ None → next_rule s.first ≡ r → same_rule r (rule_of k) ≡ true
+begins_by : (s : State) (r : Rule) (k : Kind) (wanted : Option Kind) → wanted ≡ None → next_rule s.first ≡ r → same_rule r (rule_begun k) ≡ true
     → within s wanted k ≡ Some (record { first = k; done = 0 })
 begins_by s r k wanted n e t = rw n (rw e (rw t refl))
 
-pub begins : (s : State) (r : Rule) (k : Kind) → IsDone s r → same_rule r (rule_of k) ≡ true → step s k ≡ Some (record { first = k; done = 0 })
-unfolding step
+pub begins : (s : State) (r : Rule) (k : Kind) → IsDone s r → same_rule r (rule_begun k) ≡ true → next_state s k ≡ Some (record { first = k; done = 0 })
+unfolding next_state
 begins s r k d t = begins_by s r k _ d.none d.next t
 
-finished : (s : State) (r : Rule) → IsDone s r → is_whole_text (run s (finish r)) ≡ true
-unfolding step finish
-finished s Text d = rw (begins s Text Module d refl, run) refl
-finished s Port d = rw (begins s Port Input d refl, run) refl
-finished s MorePorts d = rw (begins s MorePorts CloseParen d refl, run) refl
-finished s Item d = rw (begins s Item Endmodule d refl, run) refl
-finished s Expression d = rw (begins s Expression Literal d refl, run) refl
-finished s AfterName d = rw (begins s AfterName Semicolon d refl, run) refl
+finished : (s : State) (r : Rule) → IsDone s r → is_whole_text (read_through s (finish r)) ≡ true
+unfolding next_state finish
+finished s Text d = rw (begins s Text Module d refl, read_through) refl
+finished s Port d = rw (begins s Port Input d refl, read_through) refl
+finished s MorePorts d = rw (begins s MorePorts CloseParen d refl, read_through) refl
+finished s Item d = rw (begins s Item Endmodule d refl, read_through) refl
+finished s Expression d = rw (begins s Expression Literal d refl, read_through) refl
+finished s AfterName d = rw (begins s AfterName Semicolon d refl, read_through) refl
 finished s Ended d = rw (ended s.first d.next) refl
 finished s Inner d = absurd (not_inner s.first d.next)
 
@@ -90,53 +87,53 @@ none_of_drop (x ∷ xs) (suc n) e = none_of_drop xs n e
 goes_by : (s : State) (k : Kind) (wanted : Option Kind) → wanted ≡ Some k → within s wanted k ≡ Some (record { first = s.first; done = s.done + 1 })
 goes_by s k wanted e = rw e (rw (same_as_itself k) refl)
 
-goes : (s : State) (k : Kind) → slice_get (behind s.first) s.done ≡ Some k → step s k ≡ Some (record { first = s.first; done = s.done + 1 })
-unfolding step
+goes : (s : State) (k : Kind) → slice_get (behind s.first) s.done ≡ Some k → next_state s k ≡ Some (record { first = s.first; done = s.done + 1 })
+unfolding next_state
 goes s k e = goes_by s k _ e
 
 -- the tokens still wanted, and then those that end the text
 can_finish : (left : List Kind) (s : State) → drop s.done (behind s.first) ≡ left
-    → is_whole_text (run s (left ++ finish (next_rule s.first))) ≡ true
+    → is_whole_text (read_through s (left ++ finish (next_rule s.first))) ≡ true
 can_finish [] s e = finished s (next_rule s.first) (record { none = none_of_drop (behind s.first) s.done e; next = refl })
 can_finish (k ∷ ks) s e =
     let next : State = record { first = s.first; done = s.done + 1 } in
     let more : drop next.done (behind next.first) ≡ ks = rw add-one (rest_of_drop (behind s.first) ks k s.done e) in
-    rw (goes s k (front_of_drop (behind s.first) ks k s.done e), run) (can_finish ks next more)
+    rw (goes s k (front_of_drop (behind s.first) ks k s.done e), read_through) (can_finish ks next more)
 
 -- ---- from a front to its state
 
-run_on : (xs ys : List Kind) (s : State) → run s (xs ++ ys) ≡ then_run (run s xs) (λ next. run next ys)
+run_on : (xs ys : List Kind) (s : State) → read_through s (xs ++ ys) ≡ then_run (read_through s xs) (λ next. read_through next ys)
 run_on [] ys s = refl
 run_on (x ∷ xs) ys s =
-    elim (step s x) as (λ o. then_run o (λ next. run next (xs ++ ys)) ≡ then_run (then_run o (λ next. run next xs)) (λ next. run next ys))
+    elim (next_state s x) as (λ o. then_run o (λ next. read_through next (xs ++ ys)) ≡ then_run (then_run o (λ next. read_through next xs)) (λ next. read_through next ys))
     [ None ↦ refl | Some next ↦ run_on xs ys next ]
 
 kinds-append : (xs ys : List Token) → kinds_of (xs ++ ys) ≡ kinds_of xs ++ kinds_of ys
 kinds-append [] ys = refl
 kinds-append (x ∷ xs) ys = ap (λ ks. x.kind ∷ ks) (kinds-append xs ys)
 
-state_goes : (kinds more : List Kind) (s : State) → run start kinds ≡ Some s → is_whole_text (run s more) ≡ true → HasSyntax (kinds ++ more)
+state_goes : (kinds more : List Kind) (s : State) → read_through start kinds ≡ Some s → is_whole_text (read_through s more) ≡ true → HasSyntax (kinds ++ more)
 state_goes kinds more s e w = rw (run_on kinds more start) (rw e w)
 
-can_go : (kinds : List Kind) (s : State) → run start kinds ≡ Some s → CanGoOn kinds
+can_go : (kinds : List Kind) (s : State) → read_through start kinds ≡ Some s → CanGoOn kinds
 can_go kinds s e =
     let more : List Kind = drop s.done (behind s.first) ++ finish (next_rule s.first) in
     (more, state_goes kinds more s e (can_finish (drop s.done (behind s.first)) s refl))
 
 -- ---- each text
 
-then_state : (front : List Token) (t : Token) (s : State) → run start (kinds_of front) ≡ Some s
-    → run start (kinds_of (front ++ t ∷ [])) ≡ then_run (step s t.kind) (λ next. Some next)
+then_state : (front : List Token) (t : Token) (s : State) → read_through start (kinds_of front) ≡ Some s
+    → read_through start (kinds_of (front ++ t ∷ [])) ≡ then_run (next_state s t.kind) (λ next. Some next)
 then_state front t s e = rw (kinds-append front (t ∷ [])) (rw (run_on (kinds_of front) (t.kind ∷ []) start) (rw e refl))
 
-stuck : (front : List Token) (t : Token) (s : State) (more : List Kind) → run start (kinds_of front) ≡ Some s → step s t.kind ≡ None
+stuck : (front : List Token) (t : Token) (s : State) (more : List Kind) → read_through start (kinds_of front) ≡ Some s → next_state s t.kind ≡ None
     → HasSyntax (kinds_of (front ++ t ∷ []) ++ more) → ⊥
 stuck front t s more e n h =
-    let none : run start (kinds_of (front ++ t ∷ [])) ≡ None = then_state front t s e ∙ rw n refl in
-    let nowhere : run start (kinds_of (front ++ t ∷ []) ++ more) ≡ None = run_on (kinds_of (front ++ t ∷ [])) more start ∙ rw none refl in
+    let none : read_through start (kinds_of (front ++ t ∷ [])) ≡ None = then_state front t s e ∙ rw n refl in
+    let nowhere : read_through start (kinds_of (front ++ t ∷ []) ++ more) ≡ None = run_on (kinds_of (front ++ t ∷ [])) more start ∙ rw none refl in
     false≢true (rw nowhere at h)
 
-told_end : (front : List Token) (s : State) (end : ℕ) (b : Bool) → is_whole s ≡ b → run start (kinds_of front) ≡ Some s
+told_end : (front : List Token) (s : State) (end : ℕ) (b : Bool) → is_whole s ≡ b → read_through start (kinds_of front) ≡ Some s
     → IsTold (front ++ []) end (cond b None (Some end))
 told_end front s end true w e = rw append-nil (rw e w)
 told_end front s end false w e = record {
@@ -147,9 +144,9 @@ told_end front s end false w e = record {
   wrong = (refl, λ h. false≢true (sym w ∙ (rw e at h)));
 }
 
-told_step : (front : List Token) (s : State) (t : Token) (ts : List Token) (end : ℕ) (o : Option State) → step s t.kind ≡ o
-    → run start (kinds_of front) ≡ Some s
-    → ((n : State) → run start (kinds_of (front ++ t ∷ [])) ≡ Some n → IsTold ((front ++ t ∷ []) ++ ts) end (refused n ts end))
+told_step : (front : List Token) (s : State) (t : Token) (ts : List Token) (end : ℕ) (o : Option State) → next_state s t.kind ≡ o
+    → read_through start (kinds_of front) ≡ Some s
+    → ((n : State) → read_through start (kinds_of (front ++ t ∷ [])) ≡ Some n → IsTold ((front ++ t ∷ []) ++ ts) end (refused n ts end))
     → IsTold (front ++ t ∷ ts) end (elim o as (λ _. Option ℕ) [ None ↦ Some t.start | Some next ↦ refused next ts end ])
 told_step front s t ts end None n e go = record {
   front = front;
@@ -162,9 +159,9 @@ told_step front s t ts end (Some next) n e go =
     let joined : (front ++ t ∷ []) ++ ts ≡ front ++ t ∷ ts = append_assoc front (t ∷ []) ts in
     subst (λ (all : List Token). IsTold all end (refused next ts end)) joined (go next (then_state front t s e ∙ rw n refl))
 
-told : (front : List Token) (s : State) (tokens : List Token) (end : ℕ) → run start (kinds_of front) ≡ Some s → IsTold (front ++ tokens) end (refused s tokens end)
+told : (front : List Token) (s : State) (tokens : List Token) (end : ℕ) → read_through start (kinds_of front) ≡ Some s → IsTold (front ++ tokens) end (refused s tokens end)
 told front s [] end e = told_end front s end (is_whole s) refl e
-told front s (t ∷ ts) end e = told_step front s t ts end (step s t.kind) refl e (λ n r. told (front ++ t ∷ []) n ts end r)
+told front s (t ∷ ts) end e = told_step front s t ts end (next_state s t.kind) refl e (λ n r. told (front ++ t ∷ []) n ts end r)
 
 pub each_told : (tokens : List Token) (end : ℕ) → IsTold tokens end (refused start tokens end)
 each_told tokens end = told [] start tokens end refl

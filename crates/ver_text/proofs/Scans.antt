@@ -6,7 +6,7 @@ use Rattle.ver_text.specs.declared.token.Token.{Token}
 use Rattle.ver_text.specs.declared.grammar.State.{State}
 use Rattle.ver_text.specs.Kinds.{is_gap}
 use Rattle.ver_text.specs.Lexemes.{first_lexeme}
-use Rattle.ver_text.specs.Grammar.{step, is_whole}
+use Rattle.ver_text.specs.Grammar.{next_state, is_whole}
 use Rattle.ver_text.specs.Tokens.{found, tokens_at, tokens_from, after, refused}
 
 -- skipped bytes are those of what stands before
@@ -40,12 +40,12 @@ pub none_left : (text : List ℕ) (at : ℕ) → length text ≤ at → tokens_f
 unfolding tokens_from
 none_left text at h = rw (drop_all at text h) refl
 
-stop_by : (b : Bool) (s : State) (l : Lexeme) (at end : ℕ) (ts : List Token) → cond b (Some s) (step s l.kind) ≡ None
+stop_by : (b : Bool) (s : State) (l : Lexeme) (at end : ℕ) (ts : List Token) → cond b (Some s) (next_state s l.kind) ≡ None
     → refused s (cond b ts (record { kind = l.kind; start = at; length = l.more + 1 } ∷ ts)) end ≡ Some at
 stop_by true s l at end ts e = cc
 stop_by false s l at end ts e = rw (e, refused) refl
 
-go_by : (b : Bool) (s next : State) (l : Lexeme) (at end : ℕ) (ts : List Token) → cond b (Some s) (step s l.kind) ≡ Some next
+go_by : (b : Bool) (s next : State) (l : Lexeme) (at end : ℕ) (ts : List Token) → cond b (Some s) (next_state s l.kind) ≡ Some next
     → refused s (cond b ts (record { kind = l.kind; start = at; length = l.more + 1 } ∷ ts)) end ≡ refused next ts end
 go_by true s next l at end ts e = let same : s ≡ next = cc in ap (λ x. refused x ts end) same
 go_by false s next l at end ts e = rw (e, refused) refl

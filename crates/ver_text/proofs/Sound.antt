@@ -5,6 +5,7 @@ use Rattle.std.specs.List.{AllByRecursion, list_all, starts_with}
 use Rattle.std.proofs.lemmas.List.{drop_at, length-map}
 use Rattle.std.proofs.lemmas.List.Elements.{All-from_recursion}
 use Rattle.std.proofs.lemmas.List.Kept.{AllPairs-cons}
+use Rattle.dip_lists.proofs.Tests.{both}
 use Rattle.dip_sets.specs.Names.{is_name, is_name_byte, begins_with_letter}
 use Rattle.net_cells.specs.declared.netlist.Port.{Port}
 use Rattle.net_cells.specs.declared.netlist.Reg.{Reg}
@@ -23,14 +24,14 @@ use Rattle.ver_text.specs.Grammar.{start}
 use Rattle.ver_text.specs.Lexemes.{first_lexeme}
 use Rattle.ver_text.specs.Tokens.{tokens_at, tokens_from, refused}
 use Rattle.ver_text.specs.Parts.{at_start, parts}
-use Rattle.ver_text.specs.Due.{at_first, is_named}
+use Rattle.ver_text.specs.Due.{at_first, has_prefix}
 use Rattle.ver_text.specs.Reading.{read_text, parts_say, unless_refused, netlist_of, named_netlist, judged, Gives}
 use Rattle.ver_text.specs.Spelling as spec
 use Rattle.ver_text.specs.Spelling.{Sign, signs, part_signs, spelling, header, declarations, values, net_name, expression, assignment, cell_name}
 use Rattle.ver_text.specs.TextLaw.{Spells, ReadSpells, sign_of}
 use Rattle.ver_text.proofs.Signs.{said}
 use Rattle.ver_text.proofs.Segments.{seen_start}
-use Rattle.ver_text.proofs.Exact.{both_true, le_of}
+use Rattle.ver_text.proofs.Exact.{le_of}
 use Rattle.ver_text.proofs.CellParts.{with_cells}
 use Rattle.ver_text.proofs.ValueParts.{declared_as, with_outputs, with_updates}
 use Rattle.ver_text.proofs.PortParts.{headed, names_of, widths_of, Apart, IsPort}
@@ -62,7 +63,7 @@ record Got (q : Progress) (ss : List Sign) : Type 0 where
   pub cs : List Cell
   pub os : List OutPort
   pub rs : List Reg
-  pub front : is_named (codes "m_") name ≡ true
+  pub front : has_prefix (codes "m_") name ≡ true
   pub form : is_name name ≡ true
   pub ins : AllByRecursion IsPort is
   pub outs : AllByRecursion IsPort ds
@@ -169,13 +170,13 @@ reg_widths = map (λ (r : Reg). r.width)
 abbrev cell_widths : List Cell → List ℕ
 cell_widths = map (λ (c : Cell). c.width)
 
-ins_same : (is : List Port) → in_list is ≡ part_signs (spec.inputs is)
+ins_same : (is : List Port) → in_list is ≡ part_signs (spec.input_parts is)
 ins_same [] = refl
-ins_same (p ∷ ps) = ap (λ xs. signs (spec.apart kind.Comma ∷ spec.port kind.Input p.width p.name) ++ xs) (ins_same ps)
+ins_same (p ∷ ps) = ap (λ xs. signs (spec.apart kind.Comma ∷ spec.port_pieces kind.Input p.width p.name) ++ xs) (ins_same ps)
 
-outs_same : (os : List OutPort) (ws : List ℕ) → out_ports (map (declared_as ws) os) ≡ part_signs (spec.outputs ws os)
+outs_same : (os : List OutPort) (ws : List ℕ) → out_ports (map (declared_as ws) os) ≡ part_signs (spec.output_parts ws os)
 outs_same [] ws = refl
-outs_same (o ∷ os) ws = ap (λ xs. signs (spec.apart kind.Comma ∷ spec.port kind.Output (slice_index ws o.net) o.name) ++ xs) (outs_same os ws)
+outs_same (o ∷ os) ws = ap (λ xs. signs (spec.apart kind.Comma ∷ spec.port_pieces kind.Output (slice_index ws o.net) o.name) ++ xs) (outs_same os ws)
 
 regs_same : (rs : List Reg) (k : ℕ) → reg_list k (reg_widths rs) ≡ part_signs (spec.registers k rs)
 regs_same [] k = refl
@@ -220,7 +221,7 @@ seven_same : (H R I O C G W V S U E I2 O2 G2 W2 V2 S2 U2 : List Sign) → I ≡ 
 seven_same H R I O C G W V S U E I2 O2 G2 W2 V2 S2 U2 i o g w v s u = rw (i, o, g, w, v, s, u) refl
 
 spelled : (name : List ℕ) (is : List Port) (rs : List Reg) (cs : List Cell) (os : List OutPort)
-    → head_signs name ++ (reset_signs ++ (part_signs (spec.inputs is) ++ (part_signs (spec.outputs (widths (made name is rs cs os)) os) ++ (close_signs
+    → head_signs name ++ (reset_signs ++ (part_signs (spec.input_parts is) ++ (part_signs (spec.output_parts (widths (made name is rs cs os)) os) ++ (close_signs
     ++ (part_signs (spec.registers (length (ins_of is)) rs) ++ (part_signs (spec.wires (length (ins_of is) + length rs) cs)
     ++ (part_signs (spec.cell_values (made name is rs cs os) (length (ins_of is) + length rs) cs) ++ (part_signs (spec.output_values (made name is rs cs os) os)
     ++ (part_signs (spec.updates (made name is rs cs os) (length (ins_of is)) rs) ++ plain kind.Endmodule ∷ [])))))))))
@@ -229,18 +230,18 @@ unfolding spelling header declarations values
 spelled name is rs cs os =
     let n : Netlist = made name is rs cs os in
     sym
-    (regroup (signs (spec.heading name)) (signs (spec.apart kind.Comma ∷ spec.port kind.Input 1 (codes "reset"))) (part_signs (spec.inputs is))
-    (part_signs (spec.outputs (widths n) os)) (signs (spec.tight kind.CloseParen ∷ spec.last kind.Semicolon ∷ [])) (part_signs (spec.registers (length (ins_of is)) rs))
+    (regroup (signs (spec.heading name)) (signs (spec.apart kind.Comma ∷ spec.port_pieces kind.Input 1 (codes "reset"))) (part_signs (spec.input_parts is))
+    (part_signs (spec.output_parts (widths n) os)) (signs (spec.tight kind.CloseParen ∷ spec.last kind.Semicolon ∷ [])) (part_signs (spec.registers (length (ins_of is)) rs))
     (part_signs (spec.wires (length (ins_of is) + length rs) cs)) (part_signs (spec.cell_values n (length (ins_of is) + length rs) cs))
     (part_signs (spec.output_values n os)) (part_signs (spec.updates n (length (ins_of is)) rs)) (signs (spec.last kind.Endmodule ∷ [])))
 
 -- ---- names
 
-named_so : (front name : List ℕ) → is_named front name ≡ true → is_name name ≡ true → IsNamed front name
+named_so : (front name : List ℕ) → has_prefix front name ≡ true → is_name name ≡ true → IsNamed front name
 named_so front name h n =
-    let b = both_true (starts_with nat_eq name front) (nat_le 3 (length name)) h in
-    let c = both_true (begins_with_letter name && nat_le (length name) 64) (list_all is_name_byte name) n in
-    let d = both_true (begins_with_letter name) (nat_le (length name) 64) c.0 in
+    let b = both (starts_with nat_eq name front) (nat_le 3 (length name)) h in
+    let c = both (begins_with_letter name && nat_le (length name) 64) (list_all is_name_byte name) n in
+    let d = both (begins_with_letter name) (nat_le (length name) 64) c.0 in
     (b.0, le_of 3 (length name) b.1, le_of (length name) 64 d.1)
 
 pairs_nil : AllPairs (λ (a : List ℕ) (b : List ℕ). a ≢ b) []
@@ -389,7 +390,7 @@ netlist_by q ss g text l t =
           ∙ (seven_same (head_signs g.name) reset_signs (in_list g.is) (out_ports g.ds) close_signs (reg_list (length (widths_of (ins_of g.is))) g.gs)
           (wire_list (length (widths_of (ins_of g.is) ++ g.gs)) g.vs) (cell_list (call_of g.is (length g.gs)) (length (ins_of g.is) + length g.gs) g.cs)
           (out_list (call_of g.is (length g.gs)) g.os) (update_list (call_of g.is (length g.gs)) (length (ins_of g.is)) g.rs) (plain kind.Endmodule ∷ [])
-          (part_signs (spec.inputs g.is)) (part_signs (spec.outputs (widths n) g.os)) (part_signs (spec.registers (length (ins_of g.is)) g.rs))
+          (part_signs (spec.input_parts g.is)) (part_signs (spec.output_parts (widths n) g.os)) (part_signs (spec.registers (length (ins_of g.is)) g.rs))
           (part_signs (spec.wires (length (ins_of g.is) + length g.rs) g.cs)) (part_signs (spec.cell_values n (length (ins_of g.is) + length g.rs) g.cs))
           (part_signs (spec.output_values n g.os)) (part_signs (spec.updates n (length (ins_of g.is)) g.rs))
           (ins_same g.is)

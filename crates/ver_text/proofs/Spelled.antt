@@ -13,7 +13,7 @@ use Rattle.net_cells.specs.Rules.{IsCell, IsWidth, HasWidth, widths}
 use Rattle.ver_text.specs.declared.kind.Kind.TheVariants as kind
 use Rattle.ver_text.specs.declared.kind.Rule.TheVariants as rule
 use Rattle.ver_text.specs.declared.progress.Progress.{Progress}
-use Rattle.ver_text.specs.Due.{is_named, at_first}
+use Rattle.ver_text.specs.Due.{has_prefix, at_first}
 use Rattle.ver_text.specs.Spelling as spec
 use Rattle.ver_text.specs.Spelling.{Sign, signs, part_signs, spelling, header, declarations, values}
 use Rattle.ver_text.proofs.Signs.{Seen, said}
@@ -32,7 +32,7 @@ made name is rs cs os = record { name = name; inputs = reset_port ∷ is; regs =
 
 -- what is asked of a netlist whose tokens are read
 pub record Good (name : List ℕ) (is : List Port) (rs : List Reg) (cs : List Cell) (os : List OutPort) : Type 0 where
-  pub front : is_named (codes "m_") name ≡ true
+  pub front : has_prefix (codes "m_") name ≡ true
   pub form : is_name name ≡ true
   pub ports : AllByRecursion IsPort is
   pub outs : AllByRecursion (λ (o : OutPort). IsPort (declared_as (widths (made name is rs cs os)) o)) os
@@ -145,12 +145,12 @@ spelled_said name is rs cs os g =
     part_signs (spec.registers (length (reset_port ∷ is)) rs) ++ (part_signs (spec.wires (length (reset_port ∷ is) + length rs) cs) ++ value_signs) in
     let close : List Sign = signs (spec.tight kind.CloseParen ∷ spec.last kind.Semicolon ∷ []) in
     ap (said at_first seen_start)
-    (regroup (signs (spec.heading name)) (signs (spec.apart kind.Comma ∷ spec.port kind.Input 1 (codes "reset"))) (part_signs (spec.inputs is))
-    (part_signs (spec.outputs (widths n) os)) close (part_signs (spec.registers (length (reset_port ∷ is)) rs))
+    (regroup (signs (spec.heading name)) (signs (spec.apart kind.Comma ∷ spec.port_pieces kind.Input 1 (codes "reset"))) (part_signs (spec.input_parts is))
+    (part_signs (spec.output_parts (widths n) os)) close (part_signs (spec.registers (length (reset_port ∷ is)) rs))
     (part_signs (spec.wires (length (reset_port ∷ is) + length rs) cs)) (part_signs (spec.cell_values n (length (reset_port ∷ is) + length rs) cs))
     (part_signs (spec.output_values n os)) (part_signs (spec.updates n (length (reset_port ∷ is)) rs)) (signs (spec.last kind.Endmodule ∷ [])))
-    ∙ start_said name (part_signs (spec.inputs is) ++ (part_signs (spec.outputs (widths n) os) ++ (close ++ item_signs))) q g.front g.form
-    (λ a d. inputs_said is name reset_port [] (map (λ (o : OutPort). o.name) os) a (part_signs (spec.outputs (widths n) os) ++ (close ++ item_signs)) q d g.ports
+    ∙ start_said name (part_signs (spec.input_parts is) ++ (part_signs (spec.output_parts (widths n) os) ++ (close ++ item_signs))) q g.front g.form
+    (λ a d. inputs_said is name reset_port [] (map (λ (o : OutPort). o.name) os) a (part_signs (spec.output_parts (widths n) os) ++ (close ++ item_signs)) q d g.ports
     g.names
     (λ b e. ports_said os (widths n) name reset_port is [] b (close ++ item_signs) q e g.outs (names_start is os g.names)
     (λ c f. close_said (headed name (reset_port ∷ is) (map (declared_as (widths n)) os)) c item_signs f

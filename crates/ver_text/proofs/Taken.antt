@@ -4,6 +4,7 @@ use Rattle.std.specs.Prelude.{codes, decimal, nat_lt, nat_le, ◌==◌, slice_ge
 use Rattle.std.specs.Str.{bytes_eq}
 use Rattle.std.proofs.lemmas.Bool.Decides.{nat_tests}
 use Rattle.std.proofs.lemmas.Slice.Eq.{bytes_eq-Decides}
+use Rattle.dip_lists.proofs.Tests.{both}
 use Rattle.net_cells.specs.declared.netlist.Port.{Port}
 use Rattle.net_cells.specs.declared.netlist.Reg.{Reg}
 use Rattle.net_cells.specs.declared.netlist.Cell.{Cell}
@@ -15,12 +16,12 @@ use Rattle.ver_text.specs.declared.kind.Kind.{Kind}
 use Rattle.ver_text.specs.declared.kind.Kind.TheVariants as kind
 use Rattle.ver_text.specs.declared.progress.Progress.{Progress}
 use Rattle.ver_text.specs.Kinds.{same_kind}
-use Rattle.ver_text.specs.Numerals.{number_of, number_below, literal, literal_of, is_numbered, numbered}
+use Rattle.ver_text.specs.Numerals.{written_number, number_below, literal, literal_of, is_numbered, numbered}
 use Rattle.ver_text.specs.Fits.{is_cell}
-use Rattle.ver_text.specs.Due.{place_from, if_within, cell_named, register_named, net_named, width_of, takes_registers, takes_wires, due_register, due_wire, binary, binary_of, const_of, not_of, mux_of, select_of, cell_op, target, with_cell, due_cell, shown_next, is_port, next_output, due_shown, due_assignment, has_values, with_next, is_next_update, due_update, due_end, is_none}
+use Rattle.ver_text.specs.Due.{port_place_from, if_within, cell_named, register_named, net_named, width_of, takes_registers, takes_wires, due_register, due_wire, binary, binary_of, const_of, not_of, mux_of, select_of, cell_op, target, with_cell, due_cell, shown_next, is_port, next_output, due_shown, due_assignment, has_values, with_next, is_next_update, due_update, due_end, is_none}
 use Rattle.ver_text.specs.Spelling.{Sign, name_in, register_name, cell_name}
 use Rattle.ver_text.specs.TestLaw.{IsRangeIn}
-use Rattle.ver_text.proofs.Exact.{both_true, lt_of, le_of, eq_of, lt_to, number_is, below_is, range_is, literal_is, cell_is}
+use Rattle.ver_text.proofs.Exact.{lt_of, le_of, eq_of, lt_to, number_is, below_is, range_is, literal_is, cell_is}
 use Rattle.ver_text.proofs.CellParts.{celled}
 use Rattle.ver_text.proofs.ValueParts.{shown, declared_as, updated}
 use Rattle.ver_text.proofs.Constructs.{kinds_same}
@@ -67,7 +68,7 @@ pub record Refers (p : Progress) (name : List ℕ) (x : ℕ) : Type 0 where
   pub same : name ≡ called p.inputs p.sources x
   pub within : x < length p.widths
 
-letter_by : (b : Bool) (c letter n : ℕ) (cs : List ℕ) → (c == letter) ≡ b → cond b (number_of cs) None ≡ Some n → c ∷ cs ≡ letter ∷ decimal n
+letter_by : (b : Bool) (c letter n : ℕ) (cs : List ℕ) → (c == letter) ≡ b → cond b (written_number cs) None ≡ Some n → c ∷ cs ≡ letter ∷ decimal n
 letter_by true c letter n cs t e = ap (λ x. x ∷ cs) (eq_of c letter t) ∙ ap (λ xs. letter ∷ xs) (number_is cs n e).1
 letter_by false c letter n cs t e = cc
 
@@ -78,7 +79,7 @@ letter_is letter n (c ∷ cs) e = letter_by (c == letter) c letter n cs refl e
 pub numbered_so : (letter n : ℕ) (name : List ℕ) → is_numbered letter n name ≡ true → name ≡ letter ∷ decimal n
 numbered_so letter n [] e = cc
 numbered_so letter n (c ∷ cs) e =
-    let h = both_true (c == letter) (bytes_eq cs (decimal n)) e in
+    let h = both (c == letter) (bytes_eq cs (decimal n)) e in
     ap (λ x. x ∷ cs) (eq_of c letter h.0) ∙ ap (λ xs. letter ∷ xs) ((bytes_eq-Decides cs (decimal n)).0 h.1)
 
 none_beyond : (ports : List Port) (k : ℕ) → length ports ≤ k → slice_get ports k ≡ None
@@ -98,7 +99,7 @@ within_by false n x e = cc
 within_of : (first end n x : ℕ) → if_within first end n ≡ Some x → Within first end n x
 within_of first end n x e =
     let h = within_by (nat_le first n && nat_lt n end) n x e in
-    let b = both_true (nat_le first n) (nat_lt n end) h.0 in
+    let b = both (nat_le first n) (nat_lt n end) h.0 in
     record { same = h.1; low = subst (λ y. first ≤ y) h.1 (le_of first n b.0); high = subst (λ y. y < end) h.1 (lt_of n end b.1) }
 
 not_less : (x n : ℕ) → n ≤ x → nat_lt x n ≡ false
@@ -119,8 +120,8 @@ record Placed (ports : List Port) (at : ℕ) (name : List ℕ) (x : ℕ) : Type 
   pub within : place < length ports
 
 placed_by : (b : Bool) (p : Port) (ps : List Port) (at : ℕ) (name : List ℕ) (x : ℕ) → bytes_eq p.name name ≡ b
-    → cond b (Some at) (place_from (at + 1) name ps) ≡ Some x
-    → (place_from (at + 1) name ps ≡ Some x → Placed ps (at + 1) name x) → Placed (p ∷ ps) at name x
+    → cond b (Some at) (port_place_from (at + 1) name ps) ≡ Some x
+    → (port_place_from (at + 1) name ps ≡ Some x → Placed ps (at + 1) name x) → Placed (p ∷ ps) at name x
 placed_by true p ps at name x t e go =
     let same : at ≡ x = cc in
     record { place = 0; sum = omega (arith, same); port = p; found = refl; same = sym ((bytes_eq-Decides p.name name).0 t); within = omega arith }
@@ -128,11 +129,11 @@ placed_by false p ps at name x t e go =
     let h = go e in
     record { place = suc h.place; sum = omega (arith, h.sum); port = h.port; found = h.found; same = h.same; within = omega (arith, h.within) }
 
-placed : (ports : List Port) (at : ℕ) (name : List ℕ) (x : ℕ) → place_from at name ports ≡ Some x → Placed ports at name x
+placed : (ports : List Port) (at : ℕ) (name : List ℕ) (x : ℕ) → port_place_from at name ports ≡ Some x → Placed ports at name x
 placed [] at name x e = cc
 placed (p ∷ ps) at name x e = placed_by (bytes_eq p.name name) p ps at name x refl e (placed ps (at + 1) name x)
 
-port_refers : (p : Progress) (name : List ℕ) (x : ℕ) → length p.inputs ≤ length p.widths → place_from 0 name p.inputs ≡ Some x → Refers p name x
+port_refers : (p : Progress) (name : List ℕ) (x : ℕ) → length p.inputs ≤ length p.widths → port_place_from 0 name p.inputs ≡ Some x → Refers p name x
 port_refers p name x l e =
     let h = placed p.inputs 0 name x e in
     let same : h.place ≡ x = omega (arith, h.sum) in
@@ -176,7 +177,7 @@ reg_by p after high low name None w e = cc
 reg_by p after high low name (Some width) w e =
     let h = held (takes_registers p && is_numbered 114 (length p.widths) name)
     (record p { widths = p.widths ++ width ∷ []; sources = p.sources + 1; next_cell = p.next_cell + 1 }) after e in
-    let b = both_true (takes_registers p) (is_numbered 114 (length p.widths) name) h.holds in
+    let b = both (takes_registers p) (is_numbered 114 (length p.widths) name) h.holds in
     let r : IsRangeIn high low width = range_is high low width w in
     record {
       width = width;
@@ -200,7 +201,7 @@ wire_by : (p after : Progress) (high low name : List ℕ) (o : Option ℕ) → w
 wire_by p after high low name None w e = cc
 wire_by p after high low name (Some width) w e =
     let h = held (takes_wires p && is_numbered 119 (length p.widths) name) (record p { widths = p.widths ++ width ∷ [] }) after e in
-    let b = both_true (takes_wires p) (is_numbered 119 (length p.widths) name) h.holds in
+    let b = both (takes_wires p) (is_numbered 119 (length p.widths) name) h.holds in
     let r : IsRangeIn high low width = range_is high low width w in
     record {
       width = width;
@@ -396,7 +397,7 @@ shown_taken : (p after : Progress) (form : Kind) (fourth third second last : Lis
 unfolding due_shown
 shown_taken p after form fourth third second last h l n e =
     let g = guarded (same_kind form kind.Semicolon && is_port (next_output p) second) (shown_next p (next_output p) (net_named p last)) after e in
-    let b = both_true (same_kind form kind.Semicolon) (is_port (next_output p) second) g.holds in
+    let b = both (same_kind form kind.Semicolon) (is_port (next_output p) second) g.holds in
     subst (λ k. ShownTaken p after k fourth third second last) (sym (kinds_same form kind.Semicolon b.0))
     (shown_by p after fourth third second last (slice_get p.declared (length p.outputs)) (net_named p last) refl refl h l n b.1 g.goes)
 

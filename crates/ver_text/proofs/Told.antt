@@ -6,8 +6,8 @@ use Rattle.ver_text.specs.declared.grammar.State.{State}
 use Rattle.ver_text.specs.declared.part.Cursor.{Cursor}
 use Rattle.ver_text.specs.declared.progress.Progress.{Progress}
 use Rattle.ver_text.specs.Kinds.{is_word}
-use Rattle.ver_text.specs.Grammar.{step, is_whole}
-use Rattle.ver_text.specs.Tokens.{text_of, refused}
+use Rattle.ver_text.specs.Grammar.{next_state, is_whole}
+use Rattle.ver_text.specs.Tokens.{token_bytes, refused}
 use Rattle.ver_text.specs.Parts.{ends, moved_to, parts}
 use Rattle.ver_text.specs.Reading.{judged}
 use Rattle.ver_text.specs.Spelling.{Sign}
@@ -34,7 +34,7 @@ told_part text p q d ts ss true e go =
     let P : Option Progress → Type 0 = λ o. elim o as (λ _. Result Progress ℕ) [ None ↦ Err d.part.head.start | Some r ↦ judged text r (parts d ts) ] ≡ Ok q in
     told_due text p q d ts ss (due_seen p (seen_of text d)) (subst P (due_is text p d) e) go
 
-told_step : (text : List ℕ) (c : Cursor) (t : Token) (ts : List Token) (ss : List Sign) (end : ℕ) (p q : Progress) (o : Option State) → step c.state t.kind ≡ o
+told_step : (text : List ℕ) (c : Cursor) (t : Token) (ts : List Token) (ss : List Sign) (end : ℕ) (p q : Progress) (o : Option State) → next_state c.state t.kind ≡ o
     → elim o as (λ _. Option ℕ) [ None ↦ Some t.start | Some next ↦ refused next ts end ] ≡ None
     → judged text p (parts c (t ∷ ts)) ≡ Ok q
     → ((next : State) (r : Progress) → refused next ts end ≡ None → judged text r (parts (moved_to c t (Some next)) ts) ≡ Ok q → said r (seen_of text (moved_to c t (Some next))) ss ≡ Some q)
@@ -57,7 +57,7 @@ pub told : (text : List ℕ) (ts : List Token) (c : Cursor) (end : ℕ) (p q : P
     → said p (seen_of text c) (map (sign_of text) ts) ≡ Some q
 told text [] c end p q n e = told_end (is_whole c.state) end p q n e
 told text (t ∷ ts) c end p q n e =
-    told_step text c t ts (map (sign_of text) ts) end p q (step c.state t.kind) refl n e
+    told_step text c t ts (map (sign_of text) ts) end p q (next_state c.state t.kind) refl n e
     (λ next r m h. told text ts (moved_to c t (Some next)) end r q m h)
 
 -- ---- what isn't a name, a number or a literal says no bytes
@@ -71,4 +71,4 @@ bare_by false word e = refl
 
 pub all_bare : (text : List ℕ) (ts : List Token) → AllByRecursion Bare (map (sign_of text) ts)
 all_bare text [] = tt
-all_bare text (t ∷ ts) = (record { none = bare_by (is_word t.kind) (text_of text t) }, all_bare text ts)
+all_bare text (t ∷ ts) = (record { none = bare_by (is_word t.kind) (token_bytes text t) }, all_bare text ts)

@@ -6,23 +6,21 @@ use Rattle.std.proofs.lemmas.List.{drop_at, take_at}
 use Rattle.std.proofs.lemmas.List.Folds.{prefix_len-append}
 use Rattle.std.proofs.lemmas.Bool.Decides.{nat_tests}
 use Rattle.std.proofs.lemmas.Fmt.{decimal_by_steps, decimal_nonempty}
+use Rattle.dip_lists.proofs.Tests.{own_number}
+use Rattle.dip_lists.proofs.Tests.{both}
 use Rattle.dip_sets.specs.Names.{is_name, is_letter, is_name_byte, begins_with_letter}
 use Rattle.ver_text.specs.declared.kind.Kind.TheVariants as kind
 use Rattle.ver_text.specs.declared.scan.Lexeme.{Lexeme}
 use Rattle.ver_text.specs.Lexemes.{first_lexeme, lexeme_by, word_kind, word_of, is_digit, is_hex, literal_tail, numeral_of, numeral_lexeme}
-use Rattle.ver_text.specs.Numerals.{literal, hexadecimal, hex_digit}
+use Rattle.ver_text.specs.Numerals.{literal, hex_digits, hex_digit}
 use Rattle.ver_text.specs.Spelling.{tight_word, tight_number, apart_name, tight_name, register_name, cell_name}
-use Rattle.ver_text.proofs.Exact.{both_true}
 use Rattle.ver_text.proofs.Formed.{low_first}
 use Rattle.ver_text.proofs.Literals.{decimal_digits}
 use Rattle.ver_text.proofs.Lexing.{Scanned, skip_none, skip_space}
 
-same_true : (n : ℕ) → (n == n) ≡ true
-same_true n = grind (arith, nat_tests)
-
 -- what passes at a front goes on behind it
 pub goes_on : (p : ℕ → Bool) (xs ys : List ℕ) → prefix_len p xs ≡ length xs → prefix_len p (xs ++ ys) ≡ length xs + prefix_len p ys
-goes_on p xs ys e = prefix_len-append p xs ys ∙ rw e (rw (same_true (length xs)) refl)
+goes_on p xs ys e = prefix_len-append p xs ys ∙ rw e (rw (own_number (length xs)) refl)
 
 stops : (p : ℕ → Bool) (xs ys : List ℕ) (b : ℕ) → prefix_len p xs ≡ length xs → p b ≡ false → prefix_len p (xs ++ b ∷ ys) ≡ length xs
 stops p xs ys b e f =
@@ -63,14 +61,14 @@ apart_is name rest w = record { lexed = name_lexed name rest 32 w refl; some = s
 all_pass : (p : ℕ → Bool) (xs : List ℕ) → list_all p xs ≡ true → prefix_len p xs ≡ length xs
 all_pass p [] h = refl
 all_pass p (x ∷ xs) h =
-    let b = both_true (p x) (list_all p xs) h in
+    let b = both (p x) (list_all p xs) h in
     let n : 1 + length xs ≡ suc (length xs) = omega arith in
     rw b.0 (rw (all_pass p xs b.1) n)
 
 pub name_word : (name : List ℕ) → is_name name ≡ true → word_kind name ≡ kind.Name → IsWord name
 name_word name h k =
-    let a = both_true (begins_with_letter name && nat_le (length name) 64) (list_all is_name_byte name) h in
-    let b = both_true (begins_with_letter name) (nat_le (length name) 64) a.0 in
+    let a = both (begins_with_letter name && nat_le (length name) 64) (list_all is_name_byte name) h in
+    let b = both (begins_with_letter name) (nat_le (length name) 64) a.0 in
     record { letter = b.0; full = all_pass is_name_byte name a.1; plain = k }
 
 digit_byte : (d : ℕ) → d < 10 → is_name_byte (48 + d) ≡ true
@@ -165,9 +163,9 @@ nought_is rest = record { lexed = number_lexed (codes "0") rest 93 (omega arith)
 hex_byte : (d : ℕ) → d < 16 → is_hex (hex_digit d) ≡ true
 hex_byte d h = grind (arith, nat_tests)
 
-hex_all : (k value : ℕ) → prefix_len is_hex (hexadecimal k value) ≡ length (hexadecimal k value)
+hex_all : (k value : ℕ) → prefix_len is_hex (hex_digits k value) ≡ length (hex_digits k value)
 hex_all zero value = refl
-hex_all (suc k) value = rw (hex_byte (value / 2 ^ (4 * k) % 16) (omega arith)) (one_more (prefix_len is_hex (hexadecimal k value)) (length (hexadecimal k value)) (hex_all k value))
+hex_all (suc k) value = rw (hex_byte (value / 2 ^ (4 * k) % 16) (omega arith)) (one_more (prefix_len is_hex (hex_digits k value)) (length (hex_digits k value)) (hex_all k value))
 
 above_two : (n : ℕ) → nat_lt 2 (suc (suc (suc n))) ≡ true
 above_two n = grind (arith, nat_tests)
@@ -193,15 +191,15 @@ literal_lexed (d ∷ ds) h hs rest s f t e =
     here ∙ (ap (λ m. numeral_of m (literal_tail (drop m text))) n ∙ (ap (numeral_of (length (d ∷ ds))) tail ∙ chosen))
 
 literal_by : (k width value : ℕ) (rest : List ℕ) → width < 2 ^ 64
-    → first_lexeme ((decimal width ++ codes "'h" ++ hexadecimal (suc k) value) ++ 59 ∷ rest)
-    ≡ record { kind = kind.Literal; more = length (decimal width ++ codes "'h" ++ hexadecimal (suc k) value) - 1 }
+    → first_lexeme ((decimal width ++ codes "'h" ++ hex_digits (suc k) value) ++ 59 ∷ rest)
+    ≡ record { kind = kind.Literal; more = length (decimal width ++ codes "'h" ++ hex_digits (suc k) value) - 1 }
 literal_by k width value rest h =
-    let hex : List ℕ = hexadecimal k value in
+    let hex : List ℕ = hex_digits k value in
     let d : ℕ = hex_digit (value / 2 ^ (4 * k) % 16) in
-    let regroup : (decimal width ++ codes "'h" ++ hexadecimal (suc k) value) ++ 59 ∷ rest ≡ decimal width ++ (39 ∷ 104 ∷ d ∷ (hex ++ 59 ∷ rest)) =
-    append_assoc (decimal width ++ codes "'h") (hexadecimal (suc k) value) (59 ∷ rest) ∙ append_assoc (decimal width) (codes "'h") (hexadecimal (suc k) value ++ 59 ∷ rest) in
-    let long : length (decimal width) + (3 + length hex) - 1 ≡ length (decimal width ++ codes "'h" ++ hexadecimal (suc k) value) - 1 =
-    omega (arith, length-append (decimal width ++ codes "'h") (hexadecimal (suc k) value), length-append (decimal width) (codes "'h")) in
+    let regroup : (decimal width ++ codes "'h" ++ hex_digits (suc k) value) ++ 59 ∷ rest ≡ decimal width ++ (39 ∷ 104 ∷ d ∷ (hex ++ 59 ∷ rest)) =
+    append_assoc (decimal width ++ codes "'h") (hex_digits (suc k) value) (59 ∷ rest) ∙ append_assoc (decimal width) (codes "'h") (hex_digits (suc k) value ++ 59 ∷ rest) in
+    let long : length (decimal width) + (3 + length hex) - 1 ≡ length (decimal width ++ codes "'h" ++ hex_digits (suc k) value) - 1 =
+    omega (arith, length-append (decimal width ++ codes "'h") (hex_digits (suc k) value), length-append (decimal width) (codes "'h")) in
     ap first_lexeme regroup
     ∙ (literal_lexed (decimal width) d hex rest (decimal_nonempty width h) (decimal_digits width h) (hex_byte (value / 2 ^ (4 * k) % 16) (omega arith)) (hex_all k value)
     ∙ ap (λ n. let l : Lexeme = record { kind = kind.Literal; more = n } in l) long)
@@ -213,11 +211,11 @@ pub literal_is : (width value : ℕ) (rest : List ℕ) → 0 < width → width <
 unfolding literal
 literal_is width value rest s h =
     let k = some_places width s in
-    let nonempty : 0 < length (decimal width ++ codes "'h" ++ hexadecimal ((width + 3) / 4) value) =
-    omega (arith, length-append (decimal width ++ codes "'h") (hexadecimal ((width + 3) / 4) value), length-append (decimal width) (codes "'h")) in
+    let nonempty : 0 < length (decimal width ++ codes "'h" ++ hex_digits ((width + 3) / 4) value) =
+    omega (arith, length-append (decimal width ++ codes "'h") (hex_digits ((width + 3) / 4) value), length-append (decimal width) (codes "'h")) in
     record {
-      lexed = subst (λ n. first_lexeme ((decimal width ++ codes "'h" ++ hexadecimal n value) ++ 59 ∷ rest)
-          ≡ record { kind = kind.Literal; more = length (decimal width ++ codes "'h" ++ hexadecimal n value) - 1 }) (sym k.1) (literal_by k.0 width value rest h);
+      lexed = subst (λ n. first_lexeme ((decimal width ++ codes "'h" ++ hex_digits n value) ++ 59 ∷ rest)
+          ≡ record { kind = kind.Literal; more = length (decimal width ++ codes "'h" ++ hex_digits n value) - 1 }) (sym k.1) (literal_by k.0 width value rest h);
       some = nonempty;
       token = refl;
       skips = skip_none;

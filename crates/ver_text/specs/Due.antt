@@ -3,7 +3,6 @@ use Rattle.std.specs.Prelude.{ℕ, ◌+◌, ◌==◌, List, [], ◌∷◌, ◌++
 use Rattle.std.specs.List.{list_all, starts_with}
 use Rattle.std.specs.Str.{bytes_eq}
 use Rattle.dip_sets.specs.Names.{is_name}
-use Rattle.net_cells.specs.declared.netlist.TheConstants.{WIDTH_LIMIT}
 use Rattle.net_cells.specs.declared.netlist.Port.{Port}
 use Rattle.net_cells.specs.declared.netlist.CellOp.{CellOp}
 use Rattle.net_cells.specs.declared.netlist.CellOp.TheVariants as op
@@ -13,9 +12,10 @@ use Rattle.ver_text.specs.declared.part.Part.{Part}
 use Rattle.ver_text.specs.declared.progress.Progress.{Progress}
 use Rattle.ver_text.specs.Kinds.{same_kind}
 use Rattle.ver_text.specs.Numerals.{number_below, literal_of, is_numbered, numbered}
-use Rattle.ver_text.specs.Tokens.{text_of}
+use Rattle.ver_text.specs.Tokens.{token_bytes}
 use Rattle.ver_text.specs.Fits.{is_cell}
 
+-- whether a list is empty
 abbrev pub is_none : {A : Type 0} → List A → Bool
 is_none [] = true
 is_none (x ∷ xs) = false
@@ -23,18 +23,20 @@ is_none (x ∷ xs) = false
 -- ---- what is known of the nets so far
 
 -- the input with a name
-abbrev pub place_from : ℕ → List ℕ → List Port → Option ℕ
-place_from at name [] = None
-place_from at name (port ∷ ports) = cond (bytes_eq port.name name) (Some at) (place_from (at + 1) name ports)
+abbrev pub port_place_from : ℕ → List ℕ → List Port → Option ℕ
+port_place_from at name [] = None
+port_place_from at name (port ∷ ports) = cond (bytes_eq port.name name) (Some at) (port_place_from (at + 1) name ports)
 
 -- a number from a first one up to another
 abbrev pub if_within : ℕ → ℕ → ℕ → Option ℕ
 if_within first end number = cond (nat_le first number && nat_lt number end) (Some number) None
 
+-- the net of the cell with this number; without one, that of the input with the name
 abbrev pub cell_named : Progress → List ℕ → Option ℕ → Option ℕ
-cell_named p name None = place_from 0 name p.inputs
+cell_named p name None = port_place_from 0 name p.inputs
 cell_named p name (Some number) = if_within p.sources (length p.widths) number
 
+-- the net of the register with this number; without one, that of a cell or an input
 abbrev pub register_named : Progress → List ℕ → Option ℕ → Option ℕ
 register_named p name None = cell_named p name (numbered 119 name)
 register_named p name (Some number) = if_within (length p.inputs) p.sources number
@@ -46,29 +48,33 @@ net_named p name = register_named p name (numbered 114 name)
 -- ---- names and ranges
 
 -- a name of at least 3 bytes that begins with these
-abbrev pub is_named : List ℕ → List ℕ → Bool
-is_named front name = starts_with nat_eq name front && nat_le 3 (length name)
+abbrev pub has_prefix : List ℕ → List ℕ → Bool
+has_prefix front name = starts_with nat_eq name front && nat_le 3 (length name)
 
+-- no port has this name
 abbrev pub is_new : List Port → List ℕ → Bool
 is_new ports name = list_all (λ (port : Port). not (bytes_eq port.name name)) ports
 
 -- a name for another port
 abbrev pub is_port_name : Progress → List ℕ → Bool
-is_port_name p name = is_named (codes "p_") name && is_new p.inputs name && is_new p.declared name
+is_port_name p name = has_prefix (codes "p_") name && is_new p.inputs name && is_new p.declared name
 
+-- the width of a range by its high bound, whose low bound must be 0
 abbrev pub width_by : Option ℕ → List ℕ → Option ℕ
 width_by None low = None
 width_by (Some high) low = cond (bytes_eq low (codes "0")) (Some (high + 1)) None
 
 -- the width of a range, of 1 to 64 bits
 unfoldable pub width_of : List ℕ → List ℕ → Option ℕ
-width_of high low = width_by (number_below WIDTH_LIMIT high) low
+width_of high low = width_by (number_below 64 high) low
 
 -- ---- the module's name and the ports
 
+-- the module's name
 abbrev pub due_name : Progress → List ℕ → Option Progress
-due_name p name = cond (is_named (codes "m_") name && is_name name) (Some (record p { name = Some name })) None
+due_name p name = cond (has_prefix (codes "m_") name && is_name name) (Some (record p { name = Some name })) None
 
+-- one more input, whose net is the next one, where the name has the form of names
 abbrev pub with_input : Progress → List ℕ → ℕ → Option Progress
 with_input p name width =
     cond (is_name name)
@@ -82,12 +88,15 @@ with_input p name width =
     }))
     None
 
+-- the clock: `clock` of one bit
 abbrev pub due_clock : Progress → List ℕ → ℕ → Option Progress
 due_clock p name width = cond (bytes_eq name (codes "clock") && (width == 1)) (Some (record p { clocked = true })) None
 
+-- the first input: `reset` of one bit
 abbrev pub due_reset : Progress → List ℕ → ℕ → Option Progress
 due_reset p name width = cond (bytes_eq name (codes "reset") && (width == 1)) (with_input p name width) None
 
+-- another input, before the outputs
 abbrev pub due_other : Progress → List ℕ → ℕ → Option Progress
 due_other p name width = cond (is_none p.declared && is_port_name p name) (with_input p name width) None
 
@@ -97,6 +106,7 @@ due_input p name None = None
 due_input p name (Some width) =
     cond p.clocked (cond (is_none p.inputs) (due_reset p name width) (due_other p name width)) (due_clock p name width)
 
+-- one more output, where the name has the form of names
 abbrev pub with_output : Progress → List ℕ → ℕ → Option Progress
 with_output p name width =
     cond (is_name name) (Some (record p { declared = p.declared ++ record { name = name; width = width } ∷ [] })) None
@@ -112,6 +122,7 @@ due_output p name (Some width) = cond (not (is_none p.inputs) && is_port_name p 
 abbrev pub takes_registers : Progress → Bool
 takes_registers p = not (is_none p.inputs) && (length p.widths == p.sources) && is_none p.outputs && is_none p.regs
 
+-- the next register
 abbrev pub due_register : Progress → List ℕ → Option ℕ → Option Progress
 due_register p name None = None
 due_register p name (Some width) =
@@ -122,13 +133,16 @@ due_register p name (Some width) =
 abbrev pub takes_wires : Progress → Bool
 takes_wires p = not (is_none p.inputs) && is_none p.cells && is_none p.outputs && is_none p.regs
 
+-- the net of the next cell
 abbrev pub due_wire : Progress → List ℕ → Option ℕ → Option Progress
 due_wire p name None = None
 due_wire p name (Some width) =
-    cond (takes_wires p && is_numbered 119 (length p.widths) name) (Some (record p { widths = p.widths ++ width ∷ [] })) None
+    cond (takes_wires p && is_numbered 119 (length p.widths) name)
+    (Some (record p { widths = p.widths ++ width ∷ [] })) None
 
 -- ---- the values of cells
 
+-- the operator of two operands that a token stands for
 abbrev pub binary : Kind → ℕ → ℕ → Option CellOp
 binary kind.And x y = Some (op.And x y)
 binary kind.Or x y = Some (op.Or x y)
@@ -140,38 +154,44 @@ binary kind.Less x y = Some (op.Less x y)
 binary kind.OpenBrace x y = Some (op.Concat x y)
 binary _ x y = None
 
+-- the same of operands that may be none
 abbrev pub binary_of : Kind → Option ℕ → Option ℕ → Option CellOp
 binary_of form None y = None
 binary_of form (Some x) None = None
 binary_of form (Some x) (Some y) = binary form x y
 
+-- a constant, of a literal that may be none
 abbrev pub const_of : Option ℕ → Option CellOp
 const_of None = None
 const_of (Some value) = Some (op.Const value)
 
+-- an inversion, of an operand that may be none
 abbrev pub not_of : Option ℕ → Option CellOp
 not_of None = None
 not_of (Some x) = Some (op.Not x)
 
+-- a choice, of operands that may be none
 abbrev pub mux_of : Option ℕ → Option ℕ → Option ℕ → Option CellOp
 mux_of None x y = None
 mux_of (Some pick) None y = None
 mux_of (Some pick) (Some x) None = None
 mux_of (Some pick) (Some x) (Some y) = Some (op.Mux pick x y)
 
+-- bits of a net, of a net and bounds that may be none
 abbrev pub select_of : Option ℕ → Option ℕ → Option ℕ → Option CellOp
 select_of None hi lo = None
 select_of (Some net) None lo = None
 select_of (Some net) (Some hi) None = None
 select_of (Some net) (Some hi) (Some lo) = Some (op.Select net hi lo)
 
--- what an expression says that begins or goes on so and has these last three names, numbers and literals; none for a name alone
+-- what an expression says that begins or goes on so and has these last three names, numbers and literals; none for a
+-- name alone
 unfoldable pub cell_op : Progress → ℕ → Kind → List ℕ → List ℕ → List ℕ → Option CellOp
 cell_op p width kind.Literal third second last = const_of (literal_of width last)
 cell_op p width kind.Tilde third second last = not_of (net_named p last)
 cell_op p width kind.Question third second last = mux_of (net_named p third) (net_named p second) (net_named p last)
 cell_op p width kind.OpenBracket third second last =
-    select_of (net_named p third) (number_below WIDTH_LIMIT second) (number_below WIDTH_LIMIT last)
+    select_of (net_named p third) (number_below 64 second) (number_below 64 last)
 cell_op p width form third second last = binary_of form (net_named p second) (net_named p last)
 
 -- the name that an assignment gives a value, which stands before those of its expression
@@ -183,29 +203,35 @@ target kind.Question fourth third second = fourth
 target kind.OpenBracket fourth third second = fourth
 target _ fourth third second = third
 
+-- one more cell, where it meets the rule of its operator
 abbrev pub with_cell : Progress → ℕ → Option CellOp → Option Progress
 with_cell p width None = None
 with_cell p width (Some o) =
-    cond (is_cell p.widths width o) (Some (record p { cells = p.cells ++ record { width = width; op = o } ∷ []; next_cell = p.next_cell + 1 })) None
+    cond (is_cell p.widths width o)
+    (Some (record p { cells = p.cells ++ record { width = width; op = o } ∷ []; next_cell = p.next_cell + 1 })) None
 
 -- the value of the next cell
 unfoldable pub due_cell : Progress → Kind → List ℕ → List ℕ → List ℕ → List ℕ → Option Progress
 due_cell p form fourth third second last =
     let width = slice_index p.widths p.next_cell in
-    cond (is_numbered 119 p.next_cell (target form fourth third second)) (with_cell p width (cell_op p width form third second last)) None
+    cond (is_numbered 119 p.next_cell (target form fourth third second))
+    (with_cell p width (cell_op p width form third second last)) None
 
 -- ---- the values of outputs and registers
 
+-- the next output with its net, where it has the width of the port
 abbrev pub with_shown : Progress → Port → Option ℕ → Option Progress
 with_shown p port None = None
 with_shown p port (Some net) =
     cond (slice_index p.widths net == port.width)
     (Some (record p { outputs = p.outputs ++ record { name = port.name; net = net } ∷ [] })) None
 
+-- the same of a port that may be none
 abbrev pub shown_next : Progress → Option Port → Option ℕ → Option Progress
 shown_next p None net = None
 shown_next p (Some port) net = with_shown p port net
 
+-- whether the port has this name
 abbrev pub is_port : Option Port → List ℕ → Bool
 is_port None name = false
 is_port (Some port) name = bytes_eq port.name name
@@ -214,32 +240,42 @@ is_port (Some port) name = bytes_eq port.name name
 abbrev pub next_output : Progress → Option Port
 next_output p = slice_get p.declared (length p.outputs)
 
+-- whether the first output without a net has this name
 abbrev pub is_next_output : Progress → List ℕ → Bool
 is_next_output p name = is_port (next_output p) name
 
 -- the net of the next output
 unfoldable pub due_shown : Progress → Kind → List ℕ → List ℕ → Option Progress
 due_shown p form name value =
-    cond (same_kind form kind.Semicolon && is_next_output p name) (shown_next p (next_output p) (net_named p value)) None
+    cond (same_kind form kind.Semicolon && is_next_output p name)
+    (shown_next p (next_output p) (net_named p value)) None
 
 -- an assignment: of the next cell, and behind those of the next output
 unfoldable pub due_assignment : Progress → Kind → List ℕ → List ℕ → List ℕ → List ℕ → Option Progress
 due_assignment p form fourth third second last =
-    cond (nat_lt p.next_cell (length p.widths)) (due_cell p form fourth third second last) (due_shown p form second last)
+    cond (nat_lt p.next_cell (length p.widths)) (due_cell p form fourth third second last)
+    (due_shown p form second last)
 
 -- each cell and each output has its value
 abbrev pub has_values : Progress → Bool
 has_values p = (p.next_cell == length p.widths) && (length p.outputs == length p.declared)
 
+-- the next register with its next net, where the two have one width
 abbrev pub with_next : Progress → Option ℕ → Option Progress
 with_next p None = None
 with_next p (Some net) =
     let width = slice_index p.widths p.next_register in
-    cond (slice_index p.widths net == width) (Some (record p { regs = p.regs ++ record { width = width; next = net } ∷ []; next_register = p.next_register + 1 })) None
+    cond (slice_index p.widths net == width)
+    (Some (record p {
+      regs = p.regs ++ record { width = width; next = net } ∷ [];
+      next_register = p.next_register + 1;
+    })) None
 
+-- whether the clock and the next register are named, where each cell and each output has its value
 abbrev pub is_next_update : Progress → List ℕ → List ℕ → Bool
 is_next_update p clock register =
-    has_values p && nat_lt p.next_register p.sources && bytes_eq clock (codes "clock") && is_numbered 114 p.next_register register
+    has_values p && nat_lt p.next_register p.sources && bytes_eq clock (codes "clock")
+    && is_numbered 114 p.next_register register
 
 -- the next net of the next register
 unfoldable pub due_update : Progress → List ℕ → List ℕ → List ℕ → Option Progress
@@ -263,9 +299,11 @@ due_by p kind.Always form fourth third second last = due_update p third second l
 due_by p kind.Endmodule form fourth third second last = due_end p
 due_by p _ form fourth third second last = None
 
+-- what is known after a part of a text; none where it is not due
 unfoldable pub due : List ℕ → Progress → Part → Option Progress
 due text p part =
-    due_by p part.head.kind part.form (text_of text part.fourth) (text_of text part.third) (text_of text part.second) (text_of text part.last)
+    due_by p part.head.kind part.form (token_bytes text part.fourth) (token_bytes text part.third)
+    (token_bytes text part.second) (token_bytes text part.last)
 
 -- before the first part
 abbrev pub at_first : Progress

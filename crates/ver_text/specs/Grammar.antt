@@ -1,7 +1,7 @@
 -- The syntax of a netlist's text, over the kinds of its tokens.
 --
--- A text is a row of constructs, each told by its first token. The tables below say of each first token where its construct may
--- stand, which tokens follow it, and which constructs may come then:
+-- A text is a row of constructs, each told by its first token. The tables below say of each first token where its
+-- construct may stand, which tokens follow it, and which constructs may come then:
 --
 --   Text        module NAME (                                   then Port
 --   Port        input or output, range NAME                     then MorePorts
@@ -25,32 +25,32 @@ use Rattle.ver_text.specs.declared.grammar.State.{State}
 use Rattle.ver_text.specs.Kinds.{same_kind, same_rule}
 
 -- where a construct may stand that begins with this token
-abbrev pub rule_of : Kind → Rule
-rule_of Module = Text
-rule_of Input = Port
-rule_of Output = Port
-rule_of Comma = MorePorts
-rule_of CloseParen = MorePorts
-rule_of Reg = Item
-rule_of Wire = Item
-rule_of Assign = Item
-rule_of Always = Item
-rule_of Endmodule = Item
-rule_of Literal = Expression
-rule_of Tilde = Expression
-rule_of OpenBrace = Expression
-rule_of Name = Expression
-rule_of Semicolon = AfterName
-rule_of And = AfterName
-rule_of Or = AfterName
-rule_of Xor = AfterName
-rule_of Plus = AfterName
-rule_of Minus = AfterName
-rule_of Equal = AfterName
-rule_of Less = AfterName
-rule_of Question = AfterName
-rule_of OpenBracket = AfterName
-rule_of _ = Inner
+abbrev pub rule_begun : Kind → Rule
+rule_begun Module = Text
+rule_begun Input = Port
+rule_begun Output = Port
+rule_begun Comma = MorePorts
+rule_begun CloseParen = MorePorts
+rule_begun Reg = Item
+rule_begun Wire = Item
+rule_begun Assign = Item
+rule_begun Always = Item
+rule_begun Endmodule = Item
+rule_begun Literal = Expression
+rule_begun Tilde = Expression
+rule_begun OpenBrace = Expression
+rule_begun Name = Expression
+rule_begun Semicolon = AfterName
+rule_begun And = AfterName
+rule_begun Or = AfterName
+rule_begun Xor = AfterName
+rule_begun Plus = AfterName
+rule_begun Minus = AfterName
+rule_begun Equal = AfterName
+rule_begun Less = AfterName
+rule_begun Question = AfterName
+rule_begun OpenBracket = AfterName
+rule_begun _ = Inner
 
 -- the tokens that follow the first of an expression
 abbrev pub behind_value : Kind → List Kind
@@ -99,29 +99,32 @@ start = record { first = Gap; done = 0 }
 -- a token within a construct, or the first of the next one
 abbrev pub within : State → Option Kind → Kind → Option State
 within s (Some wanted) kind = cond (same_kind wanted kind) (Some (record { first = s.first; done = s.done + 1 })) None
-within s None kind = cond (same_rule (next_rule s.first) (rule_of kind)) (Some (record { first = kind; done = 0 })) None
+within s None kind =
+    cond (same_rule (next_rule s.first) (rule_begun kind)) (Some (record { first = kind; done = 0 })) None
 
 -- what has been read after one more token; none where the token can't come there
-unfoldable pub step : State → Kind → Option State
-step s kind = within s (slice_get (behind s.first) s.done) kind
+unfoldable pub next_state : State → Kind → Option State
+next_state s kind = within s (slice_get (behind s.first) s.done) kind
 
 -- whether the text may end there
 abbrev pub is_whole : State → Bool
 is_whole s = same_kind s.first Endmodule
 
+-- goes on from what has been read, where it could be read
 abbrev pub then_run : Option State → (State → Option State) → Option State
-then_run None run = None
-then_run (Some s) run = run s
+then_run None go = None
+then_run (Some s) go = go s
 
 -- what has been read after several tokens
-abbrev pub run : State → List Kind → Option State
-run s [] = Some s
-run s (kind ∷ kinds) = then_run (step s kind) (λ next. run next kinds)
+abbrev pub read_through : State → List Kind → Option State
+read_through s [] = Some s
+read_through s (kind ∷ kinds) = then_run (next_state s kind) (λ next. read_through next kinds)
 
+-- whether the text may end there, where it could be read
 abbrev pub is_whole_text : Option State → Bool
 is_whole_text None = false
 is_whole_text (Some s) = is_whole s
 
 -- These tokens have the syntax.
 abbrev pub HasSyntax : List Kind → Type 0
-HasSyntax kinds = is_whole_text (run start kinds) ≡ true
+HasSyntax kinds = is_whole_text (read_through start kinds) ≡ true

@@ -55,6 +55,7 @@ number_of_kind LessEqual = 32
 number_of_kind Gap = 33
 number_of_kind Unknown = 34
 
+-- whether two kinds are one
 abbrev pub same_kind : Kind → Kind → Bool
 same_kind a b = number_of_kind a == number_of_kind b
 
@@ -69,5 +70,6 @@ number_of_rule AfterName = 5
 number_of_rule Ended = 6
 number_of_rule Inner = 7
 
+-- whether two rules are one
 abbrev pub same_rule : Rule → Rule → Bool
 same_rule a b = number_of_rule a == number_of_rule b

@@ -9,16 +9,17 @@ abbrev pub hex_digit : ℕ → ℕ
 hex_digit d = cond (nat_lt d 10) (48 + d) (87 + d)
 
 -- so many hexadecimal digits of a number, the highest first
-abbrev pub hexadecimal : ℕ → ℕ → List ℕ
-hexadecimal zero value = []
-hexadecimal (suc places) value = hex_digit (value / 2 ^ (4 * places) % 16) ∷ hexadecimal places value
+abbrev pub hex_digits : ℕ → ℕ → List ℕ
+hex_digits zero value = []
+hex_digits (suc places) value = hex_digit (value / 2 ^ (4 * places) % 16) ∷ hex_digits places value
 
 -- a width, `'h`, and as many hexadecimal digits as the width needs
 unfoldable pub literal : ℕ → ℕ → List ℕ
-literal width value = decimal width ++ codes "'h" ++ hexadecimal ((width + 3) / 4) value
+literal width value = decimal width ++ codes "'h" ++ hex_digits ((width + 3) / 4) value
 
 -- ---- what is read
 
+-- the value of a digit, decimal or hexadecimal
 abbrev pub digit_value : ℕ → ℕ
 digit_value c = cond (nat_lt c 97) (c - 48) (c - 87)
 
@@ -34,16 +35,17 @@ written write text None = None
 written write text (Some value) = cond (bytes_eq text (write value)) (Some value) None
 
 -- the number below 2 ^ 64 that is written so: no leading zero stands before it
-unfoldable pub number_of : List ℕ → Option ℕ
-number_of text = written decimal text (numeral 10 0 text)
+unfoldable pub written_number : List ℕ → Option ℕ
+written_number text = written decimal text (numeral 10 0 text)
 
+-- a number that may be none, if it is below a limit
 abbrev pub if_below : ℕ → Option ℕ → Option ℕ
 if_below limit None = None
 if_below limit (Some value) = cond (nat_lt value limit) (Some value) None
 
 -- the number below a limit that is written so
 unfoldable pub number_below : ℕ → List ℕ → Option ℕ
-number_below limit text = if_below limit (number_of text)
+number_below limit text = if_below limit (written_number text)
 
 -- the number whose literal of so many bits is written so
 unfoldable pub literal_of : ℕ → List ℕ → Option ℕ
@@ -57,4 +59,4 @@ is_numbered letter number (c ∷ cs) = (c == letter) && bytes_eq cs (decimal num
 -- the number behind a letter
 abbrev pub numbered : ℕ → List ℕ → Option ℕ
 numbered letter [] = None
-numbered letter (c ∷ cs) = cond (c == letter) (number_of cs) None
+numbered letter (c ∷ cs) = cond (c == letter) (written_number cs) None

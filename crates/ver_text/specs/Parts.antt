@@ -9,12 +9,13 @@ use Rattle.ver_text.specs.declared.grammar.State.{State}
 use Rattle.ver_text.specs.declared.part.Part.{Part}
 use Rattle.ver_text.specs.declared.part.Cursor.{Cursor}
 use Rattle.ver_text.specs.Kinds.{same_kind, is_word}
-use Rattle.ver_text.specs.Grammar.{start, step, behind, next_rule}
+use Rattle.ver_text.specs.Grammar.{start, next_state, behind, next_rule}
 
 -- all tokens of the construct were read
 abbrev pub is_done : State → Bool
 is_done s = nat_le (length (behind s.first)) s.done
 
+-- whether parts of a text stand where this rule is due
 abbrev pub begins_parts : Rule → Bool
 begins_parts Port = true
 begins_parts Item = true
@@ -37,17 +38,21 @@ closes _ = true
 abbrev pub ends : State → Bool
 ends s = is_done s && closes s.first
 
--- A part has its first token, the first token of its last construct, and the last four names, numbers and literals so far.
+-- A part has its first token, the first token of its last construct, and the last four names, numbers and literals so
+-- far.
 abbrev pub with_head : Bool → Part → Token → Part
 with_head is_first p token = cond is_first (record p { head = token }) p
 
+-- a part with a token as its last word, if it is one
 abbrev pub with_word : Part → Token → Part
 with_word p token =
     cond (is_word token.kind) (record p { fourth = p.third; third = p.second; second = p.last; last = token }) p
 
+-- a part whose last construct begins with this token
 abbrev pub with_form : Part → Kind → Part
 with_form p form = record p { form = form }
 
+-- what was read after one more token, and the state then; none where the token cannot come
 abbrev pub moved_to : Cursor → Token → Option State → Cursor
 moved_to c token None = c
 moved_to c token (Some next) =
@@ -55,8 +60,9 @@ moved_to c token (Some next) =
 
 -- after one more token
 unfoldable pub moved : Cursor → Token → Cursor
-moved c token = moved_to c token (step c.state token.kind)
+moved c token = moved_to c token (next_state c.state token.kind)
 
+-- stands where no token was read
 abbrev pub no_token : Token
 no_token = record { kind = Gap; start = 0; length = 0 }
 
@@ -64,11 +70,19 @@ no_token = record { kind = Gap; start = 0; length = 0 }
 abbrev pub at_start : Cursor
 at_start = record {
   state = start;
-  part = record { head = no_token; form = Gap; fourth = no_token; third = no_token; second = no_token; last = no_token };
+  part = record {
+    head = no_token;
+    form = Gap;
+    fourth = no_token;
+    third = no_token;
+    second = no_token;
+    last = no_token;
+  };
 }
 
 -- the parts that end in these tokens, in order
 abbrev pub parts : Cursor → List Token → List Part
 parts c [] = []
 parts c (token ∷ tokens) =
-    cond (ends (moved c token).state) ((moved c token).part ∷ parts (moved c token) tokens) (parts (moved c token) tokens)
+    cond (ends (moved c token).state) ((moved c token).part ∷ parts (moved c token) tokens)
+    (parts (moved c token) tokens)

@@ -17,21 +17,27 @@ use Rattle.ver_text.specs.Due.{due, at_first}
 abbrev pub judged : List ℕ → Progress → List Part → Result Progress ℕ
 judged text p [] = Ok p
 judged text p (part ∷ more) =
-    elim (due text p part) as (λ _. Result Progress ℕ) [ None ↦ Err part.head.start | Some next ↦ judged text next more ]
+    elim (due text p part) as
+    (λ _. Result Progress ℕ) [ None ↦ Err part.head.start | Some next ↦ judged text next more ]
 
 -- ---- the same along a text
 
+-- what was read after one more token or gap at a place
 abbrev pub moved_past : Cursor → ℕ → Lexeme → Cursor
-moved_past c at lexeme = cond (is_gap lexeme.kind) c (moved c (record { kind = lexeme.kind; start = at; length = lexeme.more + 1 }))
+moved_past c at lexeme =
+    cond (is_gap lexeme.kind) c (moved c (record { kind = lexeme.kind; start = at; length = lexeme.more + 1 }))
 
+-- whether the token just read ended a part
 abbrev pub has_ended : Cursor → Lexeme → Bool
 has_ended c lexeme = not (is_gap lexeme.kind) && ends c.state
 
+-- what is known after a part, where one has ended
 abbrev pub due_where : Bool → List ℕ → Progress → Part → Option Progress
 due_where ended text p part = cond ended (due text p part) (Some p)
 
 -- ---- the whole text
 
+-- the netlist of what is known, where the module has its name
 abbrev pub named_netlist : Option (List ℕ) → Progress → Result Netlist ℕ
 named_netlist None p = Err 0
 named_netlist (Some name) p =
@@ -46,6 +52,7 @@ netlist_of (Ok p) = named_netlist p.name p
 unfoldable pub parts_say : List ℕ → Result Netlist ℕ
 parts_say text = netlist_of (judged text at_first (parts at_start (tokens_from text 0)))
 
+-- a refusal by the syntax comes before what the parts say
 abbrev pub unless_refused : Option ℕ → Result Netlist ℕ → Result Netlist ℕ
 unless_refused (Some place) say = Err place
 unless_refused None say = say

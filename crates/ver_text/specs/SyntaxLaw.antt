@@ -5,6 +5,7 @@ use Rattle.ver_text.specs.declared.token.Token.{Token}
 use Rattle.ver_text.specs.Grammar.{HasSyntax, start}
 use Rattle.ver_text.specs.Tokens.{refused}
 
+-- the kinds of tokens
 abbrev pub kinds_of : List Token → List Kind
 kinds_of = map (λ (t : Token). t.kind)
 
@@ -25,6 +26,7 @@ pub record IsFirstWrong (tokens : List Token) (place end : ℕ) : Type 0 where
   pub before : CanGoOn (kinds_of front)
   pub wrong : IsWrongBehind front rest place end
 
+-- Where no place is told the tokens have the syntax, and else the place is that of the first wrong one.
 abbrev pub IsTold : List Token → ℕ → Option ℕ → Type 0
 IsTold tokens end None = HasSyntax (kinds_of tokens)
 IsTold tokens end (Some place) = IsFirstWrong tokens place end

@@ -2,7 +2,7 @@
 use Rattle.std.specs.Prelude.{◌≡◌, ◌↔◌, ℕ, ◌-◌, ◌^◌, ◌<◌, List, true, decimal, codes, Some}
 use Rattle.net_cells.specs.declared.netlist.CellOp.{CellOp}
 use Rattle.net_cells.specs.Rules.{IsCell, IsWidth}
-use Rattle.ver_text.specs.Numerals.{number_of, literal, literal_of}
+use Rattle.ver_text.specs.Numerals.{written_number, literal, literal_of}
 use Rattle.ver_text.specs.Due.{width_of}
 use Rattle.ver_text.specs.Fits.{is_cell}
 
@@ -16,7 +16,7 @@ IsRangeIn high low width = IsWidth width × (high ≡ decimal (width - 1)) × (l
 
 -- Numbers, ranges, literals and the rule of cells are tested for what they are.
 pub record TestsAreExact : Type 0 where
-  pub numbers : (text : List ℕ) (n : ℕ) → (number_of text ≡ Some n) ↔ IsNumberIn text n
+  pub numbers : (text : List ℕ) (n : ℕ) → (written_number text ≡ Some n) ↔ IsNumberIn text n
   pub ranges : (high low : List ℕ) (width : ℕ) → (width_of high low ≡ Some width) ↔ IsRangeIn high low width
   pub literals : (width value : ℕ) (text : List ℕ) → literal_of width text ≡ Some value → text ≡ literal width value
   pub cells : (ws : List ℕ) (width : ℕ) (o : CellOp) → (is_cell ws width o ≡ true) ↔ IsCell ws width o

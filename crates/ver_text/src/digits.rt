@@ -4,11 +4,13 @@ ghost use Rattle.ver_text.specs.Numerals as spec;
 
 use crate::scan::digits_length;
 use crate::token::from_place;
-use crate::writing::Text;
+use crate::writing::add_literal;
 use dip_lists::Memory;
+use dip_text::Text;
 use itoa::Buffer;
 use std::alloc::Global;
 
+// The value of a digit, decimal or hexadecimal.
 fn digit_value(byte: u8) -> u64
     ensures { result ≡ spec.digit_value byte }
 {
@@ -19,6 +21,7 @@ fn digit_value(byte: u8) -> u64
     }
 }
 
+// The value of digits with one more behind them, where it is below 2 to the power of 64.
 fn with_digit(base: u64, so_far: u64, byte: u8) -> Option<u64>
     ensures { result ≡ cond (nat_lt (so_far * base + spec.digit_value byte) (2 ^ 64))
         (Some (so_far * base + spec.digit_value byte)) None }
@@ -26,7 +29,7 @@ fn with_digit(base: u64, so_far: u64, byte: u8) -> Option<u64>
     so_far.checked_mul(base)?.checked_add(digit_value(byte))
 }
 
-/// The value of digits, where it is below 2 to the power of 64.
+// The value of digits, where it is below 2 to the power of 64.
 fn numeral(base: u64, digits: &[u8]) -> Option<u64>
     ensures { result ≡ spec.numeral base 0 digits.now }
 {
@@ -37,7 +40,7 @@ fn numeral(base: u64, digits: &[u8]) -> Option<u64>
     Some(so_far)
 }
 
-/// Whether a text is the decimal numeral of a number.
+// Whether a text is the decimal numeral of a number.
 fn is_decimal(text: &[u8], number: u64) -> bool
     ensures { result ≡ bytes_eq text.now (decimal number) }
 {
@@ -46,9 +49,9 @@ fn is_decimal(text: &[u8], number: u64) -> bool
 }
 
 /// The number below 2 to the power of 64 that is written so, without a leading zero.
-#[tactic(auto, unfolding(crate::specs::Numerals::number_of))]
-pub fn number_of(text: &[u8]) -> Option<u64>
-    ensures { result ≡ spec.number_of text.now }
+#[tactic(auto, unfolding(crate::specs::Numerals::written_number))]
+pub fn written_number(text: &[u8]) -> Option<u64>
+    ensures { result ≡ spec.written_number text.now }
 {
     let value = numeral(10, text)?;
     is_decimal(text, value).then_some(value)
@@ -60,7 +63,7 @@ pub fn number_below(limit: u32, text: &[u8]) -> Option<u32>
     ensures value { result ≡ spec.number_below limit text.now }
     ensures below { IfSome result (λ value. value < limit) }
 {
-    let value = number_of(text)?;
+    let value = written_number(text)?;
     if value < u64::from(limit) {
         Some(value as u32)
     } else {
@@ -68,11 +71,12 @@ pub fn number_below(limit: u32, text: &[u8]) -> Option<u32>
     }
 }
 
+// Whether a text is the literal of a number of so many bits.
 fn is_literal(alloc: Global, width: u32, text: &[u8], value: u64) -> Result<bool, Memory>
     ensures { IfOk result (λ is. is ≡ bytes_eq text.now (spec.literal width value)) }
 {
     let mut expected = Text::new(alloc);
-    expected.add_literal(width, value)?;
+    add_literal(&mut expected, width, value)?;
     Ok(text == expected.as_slice())
 }
 
@@ -110,7 +114,7 @@ pub fn numbered(letter: u8, name: &[u8]) -> Option<u64>
         [] => None,
         [first, digits @ ..] => {
             if *first == letter {
-                number_of(digits)
+                written_number(digits)
             } else {
                 None
             }

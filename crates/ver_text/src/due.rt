@@ -25,13 +25,14 @@ fn is_none<T>(items: &Items<T>) -> bool
     items.is_empty()
 }
 
-/// Whether a name has at least 3 bytes and begins with these.
-fn is_named(front: &[u8], name: &[u8]) -> bool
-    ensures { result ≡ spec.is_named front.now name.now }
+// Whether a name has at least 3 bytes and begins with these.
+fn has_prefix(front: &[u8], name: &[u8]) -> bool
+    ensures { result ≡ spec.has_prefix front.now name.now }
 {
     name.starts_with(front) && name.len() >= 3
 }
 
+// The operator of two operands that this token stands for.
 fn binary(form: Kind, x: u64, y: u64) -> Option<CellOp>
     ensures { result ≡ spec.binary form x y }
 {
@@ -48,7 +49,7 @@ fn binary(form: Kind, x: u64, y: u64) -> Option<CellOp>
     }
 }
 
-/// The name that an assignment gives a value.
+// The name that an assignment gives a value.
 fn target<'a>(form: Kind, fourth: &'a [u8], third: &'a [u8], second: &'a [u8]) -> &'a [u8]
     ensures { result.now ≡ spec.target form fourth.now third.now second.now }
 {
@@ -63,13 +64,14 @@ impl Progress {
     fn is_port_name(&self, name: &[u8]) -> bool
         ensures { result ≡ spec.is_port_name self.now name.now }
     {
-        is_named(b"p_", name) && self.inputs.is_new(name) && self.declared.is_new(name)
+        has_prefix(b"p_", name) && self.inputs.is_new(name) && self.declared.is_new(name)
     }
 
+    // The module's name.
     fn take_name(&mut self, alloc: Global, name: &[u8]) -> Result<bool, Memory>
         ensures { IfOk result (λ is. cond is (Some self.new) None ≡ spec.due_name self.old name.now) }
     {
-        if !is_named(b"m_", name) {
+        if !has_prefix(b"m_", name) {
             return Ok(false);
         }
         let Some(name) = name_of(alloc, name)? else {
@@ -79,6 +81,7 @@ impl Progress {
         Ok(true)
     }
 
+    // One more input of the netlist, whose net is the next one.
     fn add_input(&mut self, alloc: Global, name: &[u8], width: u32) -> Result<bool, Memory>
         requires { IsTrue (spec.is_new self.old.inputs name.now) }
         ensures { IfOk result (λ is. cond is (Some self.new) None ≡ spec.with_input self.old name.now width) }
@@ -94,6 +97,7 @@ impl Progress {
         Ok(true)
     }
 
+    // The clock, which is no input of the netlist.
     fn take_clock(&mut self, name: &[u8], width: u32) -> bool
         ensures { cond result (Some self.new) None ≡ spec.due_clock self.old name.now width }
     {
@@ -104,6 +108,7 @@ impl Progress {
         true
     }
 
+    // The first input of the netlist.
     fn take_reset(&mut self, alloc: Global, name: &[u8], width: u32) -> Result<bool, Memory>
         requires { IsTrue (spec.is_none self.old.inputs) }
         ensures { IfOk result (λ is. cond is (Some self.new) None ≡ spec.due_reset self.old name.now width) }
@@ -114,6 +119,7 @@ impl Progress {
         self.add_input(alloc, name, width)
     }
 
+    // An input behind `reset` and before the outputs.
     fn take_other(&mut self, alloc: Global, name: &[u8], width: u32) -> Result<bool, Memory>
         ensures { IfOk result (λ is. cond is (Some self.new) None ≡ spec.due_other self.old name.now width) }
     {
@@ -123,6 +129,7 @@ impl Progress {
         self.add_input(alloc, name, width)
     }
 
+    // The clock, then `reset`, then the other inputs.
     fn take_input(&mut self, alloc: Global, name: &[u8], width: Option<u32>) -> Result<bool, Memory>
         ensures { IfOk result (λ is. cond is (Some self.new) None ≡ spec.due_input self.old name.now width) }
     {
@@ -138,6 +145,7 @@ impl Progress {
         self.take_other(alloc, name, width)
     }
 
+    // One more output, whose net is assigned later.
     fn add_output(&mut self, alloc: Global, name: &[u8], width: u32) -> Result<bool, Memory>
         requires { IsTrue (spec.is_new self.old.declared name.now) }
         ensures { IfOk result (λ is. cond is (Some self.new) None
@@ -150,6 +158,7 @@ impl Progress {
         Ok(true)
     }
 
+    // An output, behind the inputs.
     fn take_output(
         &mut self,
         alloc: Global,
@@ -167,6 +176,7 @@ impl Progress {
         self.add_output(alloc, name, width)
     }
 
+    // Whether a register may come: behind the ports, before the first net of a cell and the first value.
     fn takes_registers(&self) -> bool
         ensures { result ≡ spec.takes_registers self.now }
     {
@@ -176,6 +186,7 @@ impl Progress {
             && is_none(&self.regs)
     }
 
+    // The next register.
     fn take_register(&mut self, name: &[u8], width: Option<u32>) -> Result<bool, Memory>
         ensures { IfOk result (λ is. cond is (Some self.new) None
             ≡ spec.due_register self.old name.now width) }
@@ -192,6 +203,7 @@ impl Progress {
         Ok(true)
     }
 
+    // Whether the net of a cell may come: behind the ports, before the first value.
     fn takes_wires(&self) -> bool
         ensures { result ≡ spec.takes_wires self.now }
     {
@@ -201,6 +213,7 @@ impl Progress {
             && is_none(&self.regs)
     }
 
+    // The net of the next cell.
     fn take_wire(&mut self, name: &[u8], width: Option<u32>) -> Result<bool, Memory>
         ensures { IfOk result (λ is. cond is (Some self.new) None ≡ spec.due_wire self.old name.now width) }
     {
@@ -214,6 +227,7 @@ impl Progress {
         Ok(true)
     }
 
+    // An operator of two nets, by their names.
     fn binary_of(&self, form: Kind, x: &[u8], y: &[u8]) -> Option<CellOp>
         ensures { result
             ≡ spec.binary_of form (spec.net_named self.now x.now) (spec.net_named self.now y.now) }
@@ -223,6 +237,7 @@ impl Progress {
         binary(form, x, y)
     }
 
+    // A choice by one net between two others, by their names.
     fn mux_of(&self, pick: &[u8], x: &[u8], y: &[u8]) -> Option<CellOp>
         ensures { result ≡ spec.mux_of (spec.net_named self.now pick.now) (spec.net_named self.now x.now)
             (spec.net_named self.now y.now) }
@@ -233,9 +248,10 @@ impl Progress {
         Some(CellOp::Mux(pick, x, y))
     }
 
+    // Bits of a net, by its name and the two bounds.
     fn select_of(&self, net: &[u8], hi: &[u8], lo: &[u8]) -> Option<CellOp>
-        ensures { result ≡ spec.select_of (spec.net_named self.now net.now) (number_below WIDTH_LIMIT hi.now)
-            (number_below WIDTH_LIMIT lo.now) }
+        ensures { result ≡ spec.select_of (spec.net_named self.now net.now) (number_below 64 hi.now)
+            (number_below 64 lo.now) }
     {
         let net = self.net_named(net)?;
         let hi = number_below(WIDTH_LIMIT, hi)?;
@@ -249,7 +265,7 @@ impl Progress {
         Some(CellOp::Not(self.net_named(x)?))
     }
 
-    /// What an expression of so many bits says, by its form and its last names, numbers and literals.
+    // What an expression of so many bits says, by its form and its last names, numbers and literals.
     #[tactic(auto, unfolding(crate::specs::Due::cell_op))]
     fn cell_op(
         &self,
@@ -271,6 +287,7 @@ impl Progress {
         }
     }
 
+    // The next cell, where it meets the rule of its operator.
     fn add_cell(&mut self, width: u32, op: Option<CellOp>) -> Result<bool, Memory>
         ensures { IfOk result (λ is. cond is (Some self.new) None ≡ spec.with_cell self.old width op) }
     {
@@ -285,6 +302,7 @@ impl Progress {
         Ok(true)
     }
 
+    // The value of the next cell.
     #[tactic(auto, unfolding(crate::specs::Due::due_cell))]
     fn take_cell(
         &mut self,
@@ -306,7 +324,7 @@ impl Progress {
         self.add_cell(width, op)
     }
 
-    /// Gives the next output a net.
+    // Gives the next output a net.
     fn add_shown(&mut self, alloc: Global, net: Option<u64>) -> Result<bool, Memory>
         ensures { IfOk result (λ is. cond is (Some self.new) None
             ≡ spec.shown_next self.old (slice_get self.old.declared (length self.old.outputs)) net) }
@@ -325,6 +343,7 @@ impl Progress {
         Ok(true)
     }
 
+    // Whether this is the name of the first output without a net.
     fn is_next_output(&self, name: &[u8]) -> bool
         ensures { result ≡ spec.is_next_output self.now name.now }
     {
@@ -334,6 +353,7 @@ impl Progress {
         }
     }
 
+    // The net of the next output.
     #[tactic(auto, unfolding(crate::specs::Due::due_shown))]
     fn take_shown(
         &mut self,
@@ -352,6 +372,7 @@ impl Progress {
         self.add_shown(alloc, net)
     }
 
+    // An assignment: of the next cell, and behind the cells of the next output.
     #[tactic(auto, unfolding(crate::specs::Due::due_assignment))]
     fn take_assignment(
         &mut self,
@@ -378,7 +399,7 @@ impl Progress {
         self.next_cell == self.widths.len() as u64 && self.outputs.len() == self.declared.len()
     }
 
-    /// Gives the next register its next net.
+    // Gives the next register its next net.
     fn add_next(&mut self, net: Option<u64>) -> Result<bool, Memory>
         ensures { IfOk result (λ is. cond is (Some self.new) None ≡ spec.with_next self.old net) }
     {
@@ -394,6 +415,7 @@ impl Progress {
         Ok(true)
     }
 
+    // Whether the clock and the next register are named, where each cell and each output has its value.
     fn is_next_update(&self, clock: &[u8], register: &[u8]) -> bool
         ensures { result ≡ spec.is_next_update self.now clock.now register.now }
     {
@@ -403,6 +425,7 @@ impl Progress {
             && is_numbered(b'r', self.next_register, register)
     }
 
+    // The next net of the next register.
     #[tactic(auto, unfolding(crate::specs::Due::due_update))]
     fn take_update(&mut self, clock: &[u8], register: &[u8], next: &[u8]) -> Result<bool, Memory>
         ensures { IfOk result (λ is. cond is (Some self.new) None
@@ -421,6 +444,7 @@ impl Progress {
         !self.inputs.is_empty() && self.has_values() && self.next_register == self.sources
     }
 
+    // Takes a part by its first token, its form and its last words, and answers whether it was due.
     #[tactic(auto, unfolding(crate::specs::Due::due_by))]
     fn take_by(
         &mut self,

@@ -4,11 +4,9 @@ use thiserror::Error;
 /// Why a text gives no netlist.
 #[derive(Clone, Copy, Debug, PartialEq, Eq, Error)]
 pub enum TextFault {
-    /// The text spells none. It is refused at this place: by its syntax, at the start of its first
-    /// token, or first byte
-    /// that begins none, after which no continuation has the syntax, or at its length, where it ends too
-    /// early; else by
-    /// its parts, at the start of the first that isn't due.
+    /// The text spells none. It is refused at this place: by its syntax, at the start of its first token,
+    /// or first byte that begins none, after which no continuation has the syntax, or at its length, where
+    /// it ends too early; else by its parts, at the start of the first that isn't due.
     #[error("no netlist at byte {place}")]
     NotText {
         /// The number of the byte, from 0.

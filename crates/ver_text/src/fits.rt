@@ -3,6 +3,7 @@ ghost use Rattle.ver_text.specs.Fits as spec;
 
 use net_cells::CellOp;
 
+// Whether a number has at most so many bits.
 fn has_bits(value: u64, width: u32) -> bool
     ensures { result ≡ nat_lt value (2 ^ width) }
 {
@@ -44,6 +45,7 @@ fn have_one_width(widths: &[u32], x: u64, y: u64) -> bool
     is_net(widths, x) && is_net(widths, y) && width_at(widths, x) == width_at(widths, y)
 }
 
+// Whether the widths of two nets add up to this one.
 fn is_joined(widths: &[u32], x: u64, y: u64, width: u32) -> bool
     ensures { result ≡ spec.is_cell widths.now width (CellOp.Concat x y) }
 {

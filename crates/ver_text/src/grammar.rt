@@ -13,8 +13,9 @@ pub struct State {
     pub done: usize,
 }
 
-fn rule_of(kind: Kind) -> Rule
-    ensures { result ≡ spec.rule_of kind }
+// Where a construct may stand that begins with this token.
+fn rule_begun(kind: Kind) -> Rule
+    ensures { result ≡ spec.rule_begun kind }
 {
     match kind {
         Kind::Module => Rule::Text,
@@ -51,7 +52,7 @@ pub fn next_rule(kind: Kind) -> Rule
     }
 }
 
-/// The tokens that follow the first of an expression.
+// The tokens that follow the first of an expression.
 fn behind_value(kind: Kind) -> &'static [Kind]
     ensures { result.now ≡ spec.behind_value kind }
 {
@@ -148,16 +149,16 @@ impl State {
     }
 
     /// After one more token; `None` exactly where it can't come there.
-    #[tactic(auto, unfolding(crate::specs::Grammar::step))]
-    pub fn step(self, kind: Kind) -> Option<State>
-        ensures { result ≡ spec.step self kind }
+    #[tactic(auto, unfolding(crate::specs::Grammar::next_state))]
+    pub fn next_state(self, kind: Kind) -> Option<State>
+        ensures { result ≡ spec.next_state self kind }
     {
         match behind(self.first).get(self.done) {
             Some(wanted) => is_same_kind(*wanted, kind).then_some(State {
                 first: self.first,
                 done: self.done + 1,
             }),
-            None => is_same_rule(next_rule(self.first), rule_of(kind)).then_some(State {
+            None => is_same_rule(next_rule(self.first), rule_begun(kind)).then_some(State {
                 first: kind,
                 done: 0,
             }),

@@ -21,8 +21,5 @@ mod writing;
 
 pub use fault::TextFault;
 pub use laws::{print_law, spelling_law, syntax_law, tests_law};
-pub use printer::{Bytes, print};
+pub use printer::print;
 pub use reader::read;
-
-#[cfg(test)]
-mod tests;

@@ -29,7 +29,7 @@ impl Model for NamedPorts {
 
 // The port with a name, one after another: for bytes that aren't text, which no token of a text is.
 fn place_among(ports: &[Port], name: &[u8]) -> Option<u64>
-    ensures { result ≡ spec.place_from 0 name.now ports.now }
+    ensures { result ≡ spec.port_place_from 0 name.now ports.now }
 {
     for (at, port) in ports.iter().enumerate() {
         if port.name.bytes() == name {
@@ -78,8 +78,9 @@ impl NamedPorts {
         self.ports.get(place)
     }
 
+    // The place of the port with a name that is text.
     fn number_of(&self, name: &str) -> Option<u64>
-        ensures { result ≡ spec.place_from 0 name.now self.now }
+        ensures { result ≡ spec.port_place_from 0 name.now self.now }
     {
         match self.names.number_of(name) {
             Some(place) => Some(place as u64),
@@ -89,7 +90,7 @@ impl NamedPorts {
 
     /// The place of the port with a name.
     pub fn place_of(&self, name: &[u8]) -> Option<u64>
-        ensures { result ≡ spec.place_from 0 name.now self.now }
+        ensures { result ≡ spec.port_place_from 0 name.now self.now }
     {
         match str::from_utf8(name) {
             Ok(text) => self.number_of(text),

@@ -37,6 +37,7 @@ fn is_done(state: State) -> bool
     behind(state.first).len() <= state.done
 }
 
+// Whether the next token is the first of a part.
 fn opens(state: State) -> bool
     ensures { result ≡ spec.opens state }
 {
@@ -44,6 +45,7 @@ fn opens(state: State) -> bool
         || (is_done(state) && matches!(next_rule(state.first), Rule::Port | Rule::Item))
 }
 
+// Whether a part may end with a construct that begins with this token.
 fn closes(kind: Kind) -> bool
     ensures { result ≡ spec.closes kind }
 {
@@ -54,6 +56,7 @@ fn closes(kind: Kind) -> bool
 }
 
 impl Part {
+    // The part with a token as its first, if it is that.
     fn with_head(self, is_first: bool, token: Token) -> Part
         ensures { result ≡ spec.with_head is_first self token }
     {
@@ -66,6 +69,7 @@ impl Part {
         self
     }
 
+    // The part with a token as its last word, if it is one.
     fn with_word(self, token: Token) -> Part
         ensures { result ≡ spec.with_word self token }
     {
@@ -116,7 +120,7 @@ impl Cursor {
     pub fn moved(self, token: Token) -> Cursor
         ensures { result ≡ spec.moved self token }
     {
-        let Some(state) = self.state.step(token.kind) else {
+        let Some(state) = self.state.next_state(token.kind) else {
             return self;
         };
         let part = self.part.with_head(opens(self.state), token);

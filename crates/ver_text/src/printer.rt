@@ -3,15 +3,13 @@ ghost use Rattle.net_cells.specs.Rules.{IsWellFormed, widths, sources};
 ghost use Rattle.ver_text.specs.Spelling as spec;
 
 use crate::kind::Kind;
-use crate::writing::Text;
-use dip_lists::{Items, Memory};
+use crate::writing::add_literal;
+use dip_lists::{Bytes, Memory};
+use dip_text::Text;
 use net_cells::{Cell, CellOp, Netlist, OutPort, Port, Reg};
 use std::alloc::Global;
 
-/// The bytes of a text.
-pub type Bytes = Items<u8>;
-
-/// The bytes of a keyword or another token that isn't a name, a number or a literal.
+// The bytes of a keyword or another token that isn't a name, a number or a literal.
 fn written_as(kind: Kind) -> &'static [u8]
     ensures { result.now ≡ spec.written_as kind }
 {
@@ -50,6 +48,7 @@ fn written_as(kind: Kind) -> &'static [u8]
     }
 }
 
+// The range of so many bits, from the highest down to 0.
 fn add_range(text: &mut Text, width: u32) -> Result<(), Memory>
     ensures { OnOk result (text.new ≡ text.old ++ spec.laid (spec.range width)) }
 {
@@ -58,8 +57,9 @@ fn add_range(text: &mut Text, width: u32) -> Result<(), Memory>
     text.add(b":0] ")
 }
 
+// A port: its direction, width and name.
 fn add_port(text: &mut Text, direction: Kind, width: u32, name: &[u8]) -> Result<(), Memory>
-    ensures { OnOk result (text.new ≡ text.old ++ spec.laid (spec.port direction width name.now)) }
+    ensures { OnOk result (text.new ≡ text.old ++ spec.laid (spec.port_pieces direction width name.now)) }
 {
     text.add(written_as(direction))?;
     text.add(b" ")?;
@@ -67,6 +67,7 @@ fn add_port(text: &mut Text, direction: Kind, width: u32, name: &[u8]) -> Result
     text.add(name)
 }
 
+// The module's name, and the clock.
 fn add_heading(text: &mut Text, name: &[u8]) -> Result<(), Memory>
     ensures { OnOk result (text.new ≡ text.old ++ spec.laid (spec.heading name.now)) }
 {
@@ -76,8 +77,9 @@ fn add_heading(text: &mut Text, name: &[u8]) -> Result<(), Memory>
     add_port(text, Kind::Input, 1, b"clock")
 }
 
+// The inputs of the netlist.
 fn add_inputs(text: &mut Text, inputs: &[Port]) -> Result<(), Memory>
-    ensures { OnOk result (text.new ≡ text.old ++ spec.lines (spec.inputs inputs.now)) }
+    ensures { OnOk result (text.new ≡ text.old ++ spec.lines (spec.input_parts inputs.now)) }
 {
     for port in inputs {
         text.add(b", ")?;
@@ -86,7 +88,7 @@ fn add_inputs(text: &mut Text, inputs: &[Port]) -> Result<(), Memory>
     Ok(())
 }
 
-/// The width of a net, 0 where there is none.
+// The width of a net, 0 where there is none.
 #[tactic(auto, using(crate::proofs::Lists::index_get))]
 fn width_of(netlist: &Netlist, net: u64) -> u32
     ensures { result ≡ slice_index (widths netlist.now) net }
@@ -94,9 +96,10 @@ fn width_of(netlist: &Netlist, net: u64) -> u32
     netlist.width_of(net).unwrap_or(0)
 }
 
+// The outputs, each with the width of its net.
 fn add_outputs(text: &mut Text, netlist: &Netlist, outputs: &[OutPort]) -> Result<(), Memory>
     ensures { OnOk result (text.new ≡ text.old
-        ++ spec.lines (spec.outputs (widths netlist.now) outputs.now)) }
+        ++ spec.lines (spec.output_parts (widths netlist.now) outputs.now)) }
 {
     for port in outputs {
         text.add(b", ")?;
@@ -110,6 +113,7 @@ fn add_outputs(text: &mut Text, netlist: &Netlist, outputs: &[OutPort]) -> Resul
     Ok(())
 }
 
+// The line that says how wide a register or the net of a cell is.
 fn add_net(
     text: &mut Text,
     what: Kind,
@@ -128,6 +132,7 @@ fn add_net(
     text.add(b";\n")
 }
 
+// A line for each register, numbered from a first one on.
 fn add_registers(text: &mut Text, first: u64, regs: &[Reg]) -> Result<(), Memory>
     requires { first + length regs.now < 2 ^ 64 }
     ensures { OnOk result (text.new ≡ text.old ++ spec.lines (spec.registers first regs.now)) }
@@ -140,6 +145,7 @@ fn add_registers(text: &mut Text, first: u64, regs: &[Reg]) -> Result<(), Memory
     Ok(())
 }
 
+// A line for each cell's net, numbered from a first one on.
 fn add_wires(text: &mut Text, first: u64, cells: &[Cell]) -> Result<(), Memory>
     requires { first + length cells.now < 2 ^ 64 }
     ensures { OnOk result (text.new ≡ text.old ++ spec.lines (spec.wires first cells.now)) }
@@ -152,7 +158,7 @@ fn add_wires(text: &mut Text, first: u64, cells: &[Cell]) -> Result<(), Memory>
     Ok(())
 }
 
-/// The number of the first cell's net.
+// The number of the first cell's net.
 fn sources(netlist: &Netlist) -> u64
     requires { length (widths netlist.now) < 2 ^ 64 }
     ensures { result ≡ sources netlist.now }
@@ -160,6 +166,7 @@ fn sources(netlist: &Netlist) -> u64
     netlist.inputs.len() as u64 + netlist.regs.len() as u64
 }
 
+// The name of a register or of the net of a cell, by its number.
 fn add_made_name(text: &mut Text, sources: u64, number: u64) -> Result<(), Memory>
     ensures { OnOk result (text.new ≡ text.old ++ spec.made_name sources number) }
 {
@@ -172,6 +179,7 @@ fn add_made_name(text: &mut Text, sources: u64, number: u64) -> Result<(), Memor
     }
 }
 
+// The name of a net: that of an input, or the one that its number makes.
 fn add_name(text: &mut Text, netlist: &Netlist, number: u64) -> Result<(), Memory>
     requires { length (widths netlist.now) < 2 ^ 64 }
     ensures { OnOk result (text.new ≡ text.old ++ spec.net_name netlist.now number) }
@@ -182,6 +190,7 @@ fn add_name(text: &mut Text, netlist: &Netlist, number: u64) -> Result<(), Memor
     }
 }
 
+// Two nets with an operator between them.
 fn add_between(
     text: &mut Text,
     netlist: &Netlist,
@@ -200,6 +209,7 @@ fn add_between(
     add_name(text, netlist, y)
 }
 
+// A net inverted.
 fn add_not(text: &mut Text, netlist: &Netlist, x: u64) -> Result<(), Memory>
     requires { length (widths netlist.now) < 2 ^ 64 }
     ensures { OnOk result (text.new ≡ text.old ++ spec.laid (spec.expression netlist.now 0 (CellOp.Not x))) }
@@ -208,6 +218,7 @@ fn add_not(text: &mut Text, netlist: &Netlist, x: u64) -> Result<(), Memory>
     add_name(text, netlist, x)
 }
 
+// A choice by one net between two others.
 fn add_mux(text: &mut Text, netlist: &Netlist, pick: u64, x: u64, y: u64) -> Result<(), Memory>
     requires { length (widths netlist.now) < 2 ^ 64 }
     ensures { OnOk result (text.new ≡ text.old
@@ -220,6 +231,7 @@ fn add_mux(text: &mut Text, netlist: &Netlist, pick: u64, x: u64, y: u64) -> Res
     add_name(text, netlist, y)
 }
 
+// Two nets joined.
 fn add_concat(text: &mut Text, netlist: &Netlist, x: u64, y: u64) -> Result<(), Memory>
     requires { length (widths netlist.now) < 2 ^ 64 }
     ensures { OnOk result (text.new ≡ text.old
@@ -232,6 +244,7 @@ fn add_concat(text: &mut Text, netlist: &Netlist, x: u64, y: u64) -> Result<(), 
     text.add(b"}")
 }
 
+// Bits of a net.
 fn add_select(text: &mut Text, netlist: &Netlist, x: u64, hi: u32, lo: u32) -> Result<(), Memory>
     requires { length (widths netlist.now) < 2 ^ 64 }
     ensures { OnOk result (text.new ≡ text.old
@@ -245,12 +258,13 @@ fn add_select(text: &mut Text, netlist: &Netlist, x: u64, hi: u32, lo: u32) -> R
     text.add(b"]")
 }
 
+// The expression of a cell of so many bits.
 fn add_expression(text: &mut Text, netlist: &Netlist, width: u32, op: CellOp) -> Result<(), Memory>
     requires { length (widths netlist.now) < 2 ^ 64 }
     ensures { OnOk result (text.new ≡ text.old ++ spec.laid (spec.expression netlist.now width op)) }
 {
     match op {
-        CellOp::Const(value) => text.add_literal(width, value),
+        CellOp::Const(value) => add_literal(text, width, value),
         CellOp::Not(x) => add_not(text, netlist, x),
         CellOp::And(x, y) => add_between(text, netlist, x, Kind::And, y),
         CellOp::Or(x, y) => add_between(text, netlist, x, Kind::Or, y),
@@ -265,6 +279,7 @@ fn add_expression(text: &mut Text, netlist: &Netlist, width: u32, op: CellOp) ->
     }
 }
 
+// The line that gives a cell its value.
 fn add_cell_value(text: &mut Text, netlist: &Netlist, number: u64, cell: Cell) -> Result<(), Memory>
     requires { length (widths netlist.now) < 2 ^ 64 }
     ensures { OnOk result (text.new ≡ text.old
@@ -278,6 +293,7 @@ fn add_cell_value(text: &mut Text, netlist: &Netlist, number: u64, cell: Cell) -
     text.add(b";\n")
 }
 
+// A line for the value of each cell, numbered from a first one on.
 fn add_cell_values(
     text: &mut Text,
     netlist: &Netlist,
@@ -296,6 +312,7 @@ fn add_cell_values(
     Ok(())
 }
 
+// The line that gives an output its net.
 fn add_output_value(text: &mut Text, netlist: &Netlist, output: &OutPort) -> Result<(), Memory>
     requires { length (widths netlist.now) < 2 ^ 64 }
     ensures { OnOk result (text.new ≡ text.old
@@ -309,6 +326,7 @@ fn add_output_value(text: &mut Text, netlist: &Netlist, output: &OutPort) -> Res
     text.add(b";\n")
 }
 
+// A line for the net of each output.
 fn add_output_values(text: &mut Text, netlist: &Netlist, outputs: &[OutPort]) -> Result<(), Memory>
     requires { length (widths netlist.now) < 2 ^ 64 }
     ensures { OnOk result (text.new ≡ text.old ++ spec.lines (spec.output_values netlist.now outputs.now)) }
@@ -319,6 +337,7 @@ fn add_output_values(text: &mut Text, netlist: &Netlist, outputs: &[OutPort]) ->
     Ok(())
 }
 
+// The rising edge of the clock, and the register that changes at it.
 fn add_edge(text: &mut Text, number: u64) -> Result<(), Memory>
     ensures { OnOk result (text.new ≡ text.old ++ (codes "always @(posedge clock) r" ++ decimal number)) }
 {
@@ -328,6 +347,7 @@ fn add_edge(text: &mut Text, number: u64) -> Result<(), Memory>
     text.add_number(number)
 }
 
+// The line that gives a register its next net.
 #[tactic(auto, unfolding(crate::specs::Spelling::update))]
 fn add_update(text: &mut Text, netlist: &Netlist, number: u64, next: u64) -> Result<(), Memory>
     requires { length (widths netlist.now) < 2 ^ 64 }
@@ -340,6 +360,7 @@ fn add_update(text: &mut Text, netlist: &Netlist, number: u64, next: u64) -> Res
     text.add(b";\n")
 }
 
+// A line for the next net of each register, numbered from a first one on.
 fn add_updates(text: &mut Text, netlist: &Netlist, first: u64, regs: &[Reg]) -> Result<(), Memory>
     requires few { length (widths netlist.now) < 2 ^ 64 }
     requires last { first + length regs.now < 2 ^ 64 }
@@ -353,9 +374,10 @@ fn add_updates(text: &mut Text, netlist: &Netlist, first: u64, regs: &[Reg]) -> 
     Ok(())
 }
 
+// The module and its ports.
 #[tactic(auto, using(crate::proofs::Lists::joined), unfolding(crate::specs::Spelling::header))]
 fn add_header(text: &mut Text, netlist: &Netlist) -> Result<(), Memory>
-    ensures { OnOk result (text.new ≡ text.old ++ spec.all_lines (spec.header netlist.now)) }
+    ensures { OnOk result (text.new ≡ text.old ++ spec.group_lines (spec.header netlist.now)) }
 {
     add_heading(text, netlist.name.bytes())?;
     add_inputs(text, netlist.inputs.as_slice())?;
@@ -363,10 +385,11 @@ fn add_header(text: &mut Text, netlist: &Netlist) -> Result<(), Memory>
     text.add(b");\n")
 }
 
+// The lines that say which registers and cells there are.
 #[tactic(auto, using(crate::proofs::Lists::joined), unfolding(crate::specs::Spelling::declarations))]
 fn add_declarations(text: &mut Text, netlist: &Netlist) -> Result<(), Memory>
     requires { length (widths netlist.now) < 2 ^ 64 }
-    ensures { OnOk result (text.new ≡ text.old ++ spec.all_lines (spec.declarations netlist.now)) }
+    ensures { OnOk result (text.new ≡ text.old ++ spec.group_lines (spec.declarations netlist.now)) }
 {
     let first = netlist.inputs.len() as u64;
     let sources = sources(netlist);
@@ -374,10 +397,11 @@ fn add_declarations(text: &mut Text, netlist: &Netlist) -> Result<(), Memory>
     add_wires(text, sources, netlist.cells.as_slice())
 }
 
+// The lines that say what values nets have, and the end.
 #[tactic(auto, using(crate::proofs::Lists::joined), unfolding(crate::specs::Spelling::values))]
 fn add_values(text: &mut Text, netlist: &Netlist) -> Result<(), Memory>
     requires { length (widths netlist.now) < 2 ^ 64 }
-    ensures { OnOk result (text.new ≡ text.old ++ spec.all_lines (spec.values netlist.now)) }
+    ensures { OnOk result (text.new ≡ text.old ++ spec.group_lines (spec.values netlist.now)) }
 {
     let first = netlist.inputs.len() as u64;
     let sources = sources(netlist);

@@ -89,6 +89,7 @@ impl Progress {
         }
     }
 
+    // The net of a cell by its number, or of an input by its name where it has none.
     fn cell_named(&self, name: &[u8]) -> Option<u64>
         ensures { result ≡ spec.cell_named self.now name.now (numbered 119 name.now) }
     {

@@ -15,7 +15,7 @@ use dip_lists::Memory;
 use net_cells::Netlist;
 use std::alloc::Global;
 
-/// After one more token or gap at a place.
+// After one more token or gap at a place.
 fn moved_past(cursor: Cursor, at: usize, lexeme: Lexeme) -> Cursor
     requires { at + lexeme.more + 1 < 2 ^ 64 }
     ensures { result ≡ spec.moved_past cursor at lexeme }
@@ -30,14 +30,14 @@ fn moved_past(cursor: Cursor, at: usize, lexeme: Lexeme) -> Cursor
     })
 }
 
-/// Whether the token just read ended a part.
+// Whether the token just read ended a part.
 fn has_ended(cursor: Cursor, lexeme: Lexeme) -> bool
     ensures { result ≡ spec.has_ended cursor lexeme }
 {
     !lexeme.kind.is_gap() && cursor.ends()
 }
 
-/// Takes a part where one has ended, and answers whether it was due.
+// Takes a part where one has ended, and answers whether it was due.
 fn take_ended(
     progress: &mut Progress,
     alloc: Global,
@@ -54,7 +54,7 @@ fn take_ended(
     progress.take(alloc, text, part)
 }
 
-/// What the parts of a text say, or the first of them that isn't due.
+// What the parts of a text say, or the first of them that isn't due.
 fn parts_of(alloc: Global, text: &[u8]) -> Result<Progress, TextFault>
     ensures { spec.Gives (spec.judged text.now at_first (parts at_start (tokens_from text.now 0))) result }
 {
@@ -75,6 +75,7 @@ fn parts_of(alloc: Global, text: &[u8]) -> Result<Progress, TextFault>
     Ok(progress)
 }
 
+// The netlist that was read, where it has a name.
 fn netlist_of(progress: Progress) -> Result<Netlist, TextFault>
     ensures { spec.Gives (spec.named_netlist progress.name progress) result }
 {

@@ -44,6 +44,7 @@ fn is_space(byte: u8) -> bool
     byte == b' ' || byte == b'\t' || byte == b'\n' || byte == b'\r'
 }
 
+// How many letters, digits and `_` a text has at its front.
 fn word_length(text: &[u8]) -> usize
     ensures length { result ≡ prefix_len is_name_byte text.now }
     ensures within { result ≤ length text.now }
@@ -73,6 +74,7 @@ pub fn digits_length(text: &[u8]) -> usize
     count
 }
 
+// How many hexadecimal digits a text has at its front.
 fn hex_length(text: &[u8]) -> usize
     ensures length { result ≡ prefix_len spec.is_hex text.now }
     ensures within { result ≤ length text.now }
@@ -87,6 +89,7 @@ fn hex_length(text: &[u8]) -> usize
     count
 }
 
+// How many bytes stand before the first line feed.
 fn line_length(text: &[u8]) -> usize
     ensures length { result ≡ prefix_len spec.is_no_line_feed text.now }
     ensures within { result ≤ length text.now }
@@ -101,6 +104,7 @@ fn line_length(text: &[u8]) -> usize
     count
 }
 
+// A keyword, or a name.
 fn word_kind(word: &[u8]) -> Kind
     ensures { result ≡ spec.word_kind word.now }
 {
@@ -134,6 +138,7 @@ fn word_kind(word: &[u8]) -> Kind
     Kind::Name
 }
 
+// The keyword or name at the front of a text.
 fn word(text: &[u8]) -> Lexeme
     ensures kind { result ≡ spec.word_lexeme text.now }
     ensures inside { 0 < length text.now → result.more < length text.now }
@@ -145,6 +150,7 @@ fn word(text: &[u8]) -> Lexeme
     }
 }
 
+// How many bytes of a literal follow its width: none where no literal follows.
 fn literal_tail(text: &[u8]) -> usize
     ensures length { result ≡ spec.literal_tail text.now }
     ensures within { result ≤ length text.now }
@@ -156,6 +162,7 @@ fn literal_tail(text: &[u8]) -> usize
     }
 }
 
+// The number or literal at the front of a text.
 fn numeral(text: &[u8]) -> Lexeme
     ensures kind { result ≡ spec.numeral_lexeme text.now }
     ensures inside { 0 < length text.now → result.more < length text.now }
@@ -174,6 +181,7 @@ fn numeral(text: &[u8]) -> Lexeme
     }
 }
 
+// The byte at a place, 0 where there is none.
 #[tactic(auto, using(crate::proofs::Lists::index_get))]
 fn byte_at(text: &[u8], place: usize) -> u8
     ensures byte { result ≡ slice_index text.now place }
@@ -182,6 +190,7 @@ fn byte_at(text: &[u8], place: usize) -> u8
     text.get(place).copied().unwrap_or(0)
 }
 
+// The comment at the front of a text, or the byte that begins none.
 fn comment(text: &[u8]) -> Lexeme
     ensures kind { result ≡ spec.comment_lexeme text.now }
     ensures inside { 0 < length text.now → result.more < length text.now }
@@ -201,6 +210,7 @@ fn one(kind: Kind) -> Lexeme
     Lexeme { kind, more: 0 }
 }
 
+// `<=` or `<` at the front of a text.
 fn less(text: &[u8]) -> Lexeme
     ensures kind { result ≡ spec.less_lexeme text.now }
     ensures inside { 0 < length text.now → result.more < length text.now }
@@ -214,6 +224,7 @@ fn less(text: &[u8]) -> Lexeme
     }
 }
 
+// `==` or `=` at the front of a text.
 fn equals(text: &[u8]) -> Lexeme
     ensures kind { result ≡ spec.equals_lexeme text.now }
     ensures inside { 0 < length text.now → result.more < length text.now }
@@ -227,6 +238,7 @@ fn equals(text: &[u8]) -> Lexeme
     }
 }
 
+// The other tokens, of one byte.
 fn symbol_kind(byte: u8) -> Kind
     ensures { result ≡ spec.symbol_kind byte }
 {

@@ -1,6 +1,6 @@
 ghost use Rattle.std.specs.Prelude.{◌≡◌, ◌+◌, ◌<◌, ◌≤◌, length, drop, take};
 ghost use Rattle.ver_text.specs.Lexemes.{first_lexeme};
-ghost use Rattle.ver_text.specs.Tokens.{text_of};
+ghost use Rattle.ver_text.specs.Tokens.{token_bytes};
 
 use crate::kind::Kind;
 use crate::scan::{Lexeme, first_lexeme};
@@ -32,7 +32,7 @@ pub fn from_place(text: &[u8], place: usize) -> &[u8]
     text.get(place..).unwrap_or(&[])
 }
 
-/// At most so many bytes at the front.
+// At most so many bytes at the front.
 fn front(text: &[u8], length: usize) -> &[u8]
     ensures { result.now ≡ take length text.now }
 {
@@ -41,7 +41,7 @@ fn front(text: &[u8], length: usize) -> &[u8]
 
 /// The bytes of a token of a text.
 pub fn bytes_of(text: &[u8], token: Token) -> &[u8]
-    ensures { result.now ≡ text_of text.now token }
+    ensures { result.now ≡ token_bytes text.now token }
 {
     front(from_place(text, token.start), token.length)
 }

@@ -8,10 +8,10 @@ pub returns-clause-few : goal.returns-clause-few
 returns-clause-few c =
     let n : count (nodes_in (table_view c.args.table.now)) ≡ length c.tables_in.result.now =
     ap count (sym c.tables_in.ensures) ∙ count-items_view c.tables_in.result.now in
-    rw n c.stated_nodes.ensures.few
+    rw n c.limited_nodes.ensures.few
 
 pub returns-clause-counted : goal.returns-clause-counted
 returns-clause-counted c =
     let n : count (nodes_in (table_view c.args.table.now)) ≡ length c.tables_in.result.now =
     ap count (sym c.tables_in.ensures) ∙ count-items_view c.tables_in.result.now in
-    rw n c.stated_nodes.ensures.counted
+    rw n c.limited_nodes.ensures.counted

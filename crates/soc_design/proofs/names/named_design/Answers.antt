@@ -16,8 +16,8 @@ joined : (ms : Members) (heading : Heading) (modules : List ModuleEntry) (nodes 
     → design_with ms heading ≡ Some (record { name = heading.name; policy = heading.policy; modules = modules; nodes = nodes; binds = binds })
 joined ms heading modules nodes binds m n b = rw (m, n, b) refl
 
-pub binds_of-requires : goal.binds_of-requires
-binds_of-requires c =
+pub stated_binds-requires : goal.stated_binds-requires
+stated_binds-requires c =
     let n : length c.in_ok-named.named.names ≡ count (nodes_in (table_view c.args.table.now)) =
     ap length c.in_ok-named.ensures.names ∙ count-names_at (nodes_in (table_view c.args.table.now)) in
     omega arith

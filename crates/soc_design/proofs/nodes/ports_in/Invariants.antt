@@ -5,4 +5,4 @@ use Rattle.soc_design.specs.Stated as spec
 use Rattle.soc_design.proofs.nodes.ports_in.Given as goal
 
 abbrev pub invariant-loop-item : goal.invariant-loop-item
-invariant-loop-item l = option_map (λ rest. l.ports ++ rest) (spec.all_of spec.sets_of (items_view (drop l.item-index l.items))) ≡ spec.all_of spec.sets_of (items_view l.items)
+invariant-loop-item l = option_map (λ rest. l.ports ++ rest) (spec.all_of spec.stated_sets (items_view (drop l.item-index l.items))) ≡ spec.all_of spec.stated_sets (items_view l.items)

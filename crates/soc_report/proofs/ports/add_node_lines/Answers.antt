@@ -4,4 +4,5 @@ use Rattle.soc_report.proofs.ports.add_node_lines.Goals as goal
 
 pub returns : goal.returns
 returns c =
-    all_made _ _ c.args.nodes.now c.args.number c.args.source.now c.args.edges.now c.args.ups.now c.loop-at.at (omega arith) c.loop-at.invariant
+    all_made c.args.nodes.now c.args.number c.args.name.now c.args.ids _ _ c.args.edges.now c.args.ups.now
+    c.loop-at.at (omega arith) c.loop-at.invariant

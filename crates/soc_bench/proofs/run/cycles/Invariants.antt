@@ -1,8 +1,0 @@
-use Rattle.std.proofs.Common.{◌≡◌, length}
-use Rattle.soc_bench.proofs.run.cycles.Given as goal
-
-abbrev pub invariant-loop : goal.invariant-loop
-invariant-loop l = record {
-  input : length l.engine.netlist.inputs ≡ 1;
-  output : length l.engine.netlist.outputs ≡ 1;
-}
