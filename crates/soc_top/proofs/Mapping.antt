@@ -2,7 +2,7 @@
 use Rattle.std.proofs.Common.{◌≡◌, ◌∙◌, refl, ap, sym, subst, None, List, ℕ, Option, Some, Result, Ok, Err}
 use Rattle.std.specs.Prelude.{IfOk, IfErr, All}
 use Rattle.dip_negotiate.specs.Negotiation.{IsOnlySolution}
-use Rattle.dip_checks.specs.Apart.{HasDisjointSets}
+use Rattle.tl_params.specs.Apart.{HasDisjointSets}
 use Rattle.dip_lists.specs.First.{first_failing}
 use Rattle.dip_graph.specs.declared.design.Design.{Design}
 use Rattle.dip_graph.specs.declared.fault.Fault.{Fault}

@@ -4,7 +4,7 @@ use Rattle.dip_lists.specs.First.{Check, Failure, first_failing}
 use Rattle.dip_graph.specs.declared.design.Design.{Design}
 use Rattle.dip_rule.specs.Stated.{StatedRule}
 use Rattle.dip_negotiate.specs.Negotiation.{IsOnlySolution}
-use Rattle.dip_checks.specs.Apart.{HasDisjointSets}
+use Rattle.tl_params.specs.Apart.{HasDisjointSets}
 use Rattle.dip_checks.specs.declared.accepted.Accepted.{Accepted}
 use Rattle.dip_checks.specs.Checks.{design_checks, accepted_of, edges_in}
 use Rattle.soc_design.specs.Reading.{file_checks, stated_design}

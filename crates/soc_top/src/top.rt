@@ -2,8 +2,9 @@ ghost use Rattle.std.specs.Prelude.{◌≡◌, ◌≢◌, ◌≤◌, None, lengt
 ghost use Rattle.std.specs.Option.{option_map};
 ghost use Rattle.dip_lists.specs.First.{first_failing};
 ghost use Rattle.dip_io.specs.Outside.{SameContent};
-ghost use Rattle.dip_negotiate.specs.Negotiation.{HasNodes, IsOnlySolution};
-ghost use Rattle.dip_checks.specs.Apart.{HasDisjointSets};
+ghost use Rattle.tl_params.specs.Apart.{HasDisjointSets};
+ghost use Rattle.dip_graph.specs.Edges.{HasNodes};
+ghost use Rattle.dip_negotiate.specs.Negotiation.{IsOnlySolution};
 ghost use Rattle.dip_checks.specs.Checks.{accepted_of, design_checks};
 ghost use Rattle.soc_report.specs.MapText.{map_text};
 ghost use Rattle.dip_graph.specs.Faults.{IsFaultOf};
