@@ -72,8 +72,14 @@ abbrev pub operations_in : Members → Option Ops
 operations_in ms =
     option_and_then (λ get. option_and_then (λ put_full. option_and_then (λ put_partial.
     option_and_then (λ arithmetic. option_and_then (λ logical. option_map (λ intent.
-    record { get = get; put_full = put_full; put_partial = put_partial;
-    arithmetic = arithmetic; logical = logical; intent = intent })
+    record {
+      get = get;
+      put_full = put_full;
+      put_partial = put_partial;
+      arithmetic = arithmetic;
+      logical = logical;
+      intent = intent;
+    })
     (stated_sizes most_transfer (get_member (codes "intent") ms)))
     (stated_sizes most_atomic (get_member (codes "logical") ms)))
     (stated_sizes most_atomic (get_member (codes "arithmetic") ms)))

@@ -10,13 +10,7 @@ use tl_params::UpPort;
 
 // Adds the line of an out port of a source with so many ids, whose bus has so many bytes.
 #[tactic(auto, unfolding(crate::specs::MapText::port_line))]
-fn add_port_line(
-    text: &mut Text,
-    name: &[u8],
-    port: u32,
-    ids: u32,
-    beat: u32,
-) -> Result<(), Memory>
+fn add_port_line(text: &mut Text, name: &[u8], port: u32, ids: u32, beat: u32) -> Result<(), Memory>
     ensures { OnOk result (text.new ≡ text.old ++ port_line name.now port ids beat) }
 {
     text.add(b"port ")?;
