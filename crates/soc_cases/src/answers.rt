@@ -95,7 +95,7 @@ pub fn print_ended(rt: &HostRuntime, ended: Result<Answer, Memory>) -> io::Resul
     }
 }
 
-/// Runs these words on files that lie where the program runs, and prints the exit status after what was printed.
+/// Runs these words on files that lie where the program runs, and prints the exit status at the end.
 pub fn run_words(rt: &HostRuntime, line: &str) -> io::Result<()> {
     let Ok(words) = words_of(rt.alloc(), line) else {
         return println!(rt; "no memory");

@@ -104,7 +104,8 @@ impl Rule for Fixed {
     }
 }
 
-/// The rule that gives these: down `MASTERS,START,END`, up `SLAVES,BEAT,MOST,BASE,MASK,NODE`, and nothing for `-`.
+/// The rule that gives these: down `MASTERS,START,END`, up `SLAVES,BEAT,MOST,BASE,MASK,NODE`; nothing
+/// for `-`.
 pub fn fixed_rule(alloc: Global, down: &str, up: &str) -> Result<Fixed, Memory> {
     let mut fixed = Fixed {
         alloc,

@@ -1,8 +1,8 @@
 -- What the tables of a design file state, where their numbers are within the limits and their names are known.
 use Rattle.std.specs.Prelude.{ℕ, ℤ, ◌+◌, ◌-◌, ◌^◌, List, [], ◌∷◌, length, take, codes, ◌&&◌, ◌==◌, cond}
 use Rattle.std.specs.Prelude.{nat_le, bit_and, Option, Some, None, unwrap_or, position}
-use Rattle.std.specs.Option.{option_and_then, option_map}
 use Rattle.std.specs.List.{list_any}
+use Rattle.std.specs.Option.{option_and_then, option_map}
 use Rattle.std.specs.Str.{bytes_eq}
 use Rattle.toml.specs.Data.{Data, array, table, Items, no_items, item, Members, get_member}
 use Rattle.dip_sets.specs.Sets.{Pattern}

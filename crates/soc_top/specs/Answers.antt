@@ -37,7 +37,8 @@ pub data Due (rules : List StatedRule) (words : List (List ℕ)) (before after :
       → text ≡ due_text rules bytes (first_failure rules bytes) → Due rules words before after text
 
 -- What a run says of the world before and after it.
-pub record Answered (rules : List StatedRule) (words : List (List ℕ)) (before after : World) (result : Status) : Type 0 where
+pub record Answered (rules : List StatedRule) (words : List (List ℕ)) (before after : World)
+    (result : Status) : Type 0 where
   -- when each answer comes
   pub usage : result ≡ Usage → design_named words ≡ None
   pub read_failed : result ≡ ReadFailed
@@ -58,12 +59,15 @@ pub record Answered (rules : List StatedRule) (words : List (List ℕ)) (before 
   pub part : result ≡ WriteFailed
       → (text : List ℕ) × Due rules words before.files after.files text × WritesPart text before.out after.out
 
--- The other direction: where the words have no stated form, the answer is the usage; where a design file is told and was
--- loaded without a fault, the answer is what its bytes call for, written whole. A failed write and want of memory are apart.
-pub record Completed (rules : List StatedRule) (words : List (List ℕ)) (before after : World) (result : Status) : Type 0 where
+-- The other direction: where the words have no stated form, the answer is the usage; where a design file is told and
+-- was loaded without a fault, the answer is what its bytes call for, written whole. A failed write and want of memory
+-- are apart.
+pub record Completed (rules : List StatedRule) (words : List (List ℕ)) (before after : World)
+    (result : Status) : Type 0 where
   pub of_words : design_named words ≡ None → (result ≡ WriteFailed) ⊎ (result ≡ Usage)
   pub of_design : (name all : List ℕ) → design_named words ≡ Some name → before.files.content name ≡ Some (Some all)
       → ¬ (LoadsRose name before.files after.files)
       → (result ≡ Memory) ⊎ (result ≡ WriteFailed)
       ⊎ ((result ≡ answer_of (first_failure rules (take most_loaded all)))
-      × Writes (due_text rules (take most_loaded all) (first_failure rules (take most_loaded all))) before.out after.out)
+      × Writes (due_text rules (take most_loaded all) (first_failure rules (take most_loaded all)))
+      before.out after.out)

@@ -16,4 +16,5 @@ pub record Printed (text : List ℕ) (wanted result : Status) (before after : Ou
 abbrev pub RunsOn : List StatedRule → List ℕ → Status → OutSeen → OutSeen → Type 0
 RunsOn rules bytes result before after =
     ((result ≡ Memory) × (after.written ≡ before.written))
-    ⊎ Printed (due_text rules bytes (first_failure rules bytes)) (answer_of (first_failure rules bytes)) result before after
+    ⊎ Printed (due_text rules bytes (first_failure rules bytes)) (answer_of (first_failure rules bytes))
+    result before after

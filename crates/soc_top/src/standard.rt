@@ -11,8 +11,8 @@ use soc_report::Status;
 use std::alloc::Global;
 use tl_rules::boxed_standard_rules;
 
-/// Does what `soc` does, by the rules of the standard kinds. The error is want of memory for these rules: nothing
-/// was loaded and nothing printed.
+/// Does what `soc` does, by the rules of the standard kinds. The error is want of memory for these rules:
+/// nothing was loaded and nothing printed.
 pub fn soc_by_standard_rules<F: Files, O: Out>(
     alloc: Global,
     words: &[String],
@@ -20,10 +20,10 @@ pub fn soc_by_standard_rules<F: Files, O: Out>(
     out: &mut O,
 ) -> Result<Status, Memory>
     ensures files { SameContent (F.seen files.old) (F.seen files.new) }
-    ensures answered { IfOk result (λ status. Answered standard (words_of words.now) (world (F.seen files.old)
-        (O.seen out.old)) (world (F.seen files.new) (O.seen out.new)) status) }
-    ensures completed { IfOk result (λ status. Completed standard (words_of words.now) (world (F.seen files.old)
-        (O.seen out.old)) (world (F.seen files.new) (O.seen out.new)) status) }
+    ensures answered { IfOk result (λ status. Answered standard (words_of words.now) (world
+        (F.seen files.old) (O.seen out.old)) (world (F.seen files.new) (O.seen out.new)) status) }
+    ensures completed { IfOk result (λ status. Completed standard (words_of words.now) (world
+        (F.seen files.old) (O.seen out.old)) (world (F.seen files.new) (O.seen out.new)) status) }
     ensures nothing { IfErr result (λ _. O.seen out.new ≡ O.seen out.old) }
 {
     let rules = boxed_standard_rules!(alloc);

@@ -48,7 +48,7 @@ returns-then-has-clause-err c =
     (sym c.loop-place.invariant.passes
     ∙ stops (node_is_unnamed c.args.modules.now names) c.loop-place.place _ tables value c.index-tables-place.is c.loop-place-test.true
     (first_of _ _
-    (ap (λ earlier. list_any (bytes_eq (name_at (view value))) earlier) (sym c.loop-place.invariant.named)
+    (ap (list_any (bytes_eq (name_at (view value)))) (sym c.loop-place.invariant.named)
     ∙ ap (λ name. list_any (bytes_eq name) c.loop-place.names) (sym (c.as_str.ensures.text ∙ node_name (view value) _ parts.0))
     ∙ sym c.has.ensures ∙ c.if-has.true)))
 
@@ -97,7 +97,7 @@ loop-place-preserved c =
       passes =
           passes (node_is_unnamed modules names) place _ _ tables value c.index-tables-place.is c.loop-place-test.true (omega arith)
           (neither _ _
-          (ap (λ earlier. list_any (bytes_eq (name_at (view value))) earlier) (sym c.loop-place.invariant.named)
+          (ap (list_any (bytes_eq (name_at (view value)))) (sym c.loop-place.invariant.named)
           ∙ ap (λ name. list_any (bytes_eq name) c.loop-place.names) (sym (c.as_str.ensures.text ∙ name))
           ∙ sym c.has.ensures ∙ c.if-has.false)
           (ap is_none placed))
