@@ -1,7 +1,7 @@
 #!/usr/bin/env python3
 """Says where examples/ and the copies that are tried in the gate differ.
 
-Run it at the top of the repository. The program crates/soc_cases runs on the designs in its data folder, and its
+Run it at the top of the repository. The program crates/soc_tests runs on the designs in its data folder, and its
 stdout holds the maps that it must print: the same design files and maps as in examples/. Each difference is a line,
 and the status is 1 where there is one.
 """
@@ -10,7 +10,7 @@ import sys
 from pathlib import Path
 
 EXAMPLES = Path("examples")
-CASES = Path("crates/soc_cases")
+CASES = Path("crates/soc_tests")
 
 
 def differences():

@@ -1,4 +1,4 @@
-ghost use Rattle.soc_cases.specs.GivenPorts.{given_port};
+ghost use Rattle.soc_tests.specs.GivenPorts.{given_port};
 
 use dip_lists::{Items, Memory};
 use dip_rule::{Rule, RuleFault};
