@@ -101,7 +101,8 @@ fn bytes_of(alloc: Global, count: u64) -> Result<Vec<u8>, Memory> {
     Ok(bytes)
 }
 
-/// Saves so many bytes in a file of the system and loads them again: how many come back, and whether they are the same.
+/// Saves so many bytes in a file of the system and loads them again: how many come back, and whether they
+/// are the same.
 pub fn bulk(rt: &HostRuntime, rest: &str, text: &mut String) -> Result<(), Memory> {
     let bytes = bytes_of(rt.alloc(), number(rest))?;
     let Ok(clone) = rt.clone() else {

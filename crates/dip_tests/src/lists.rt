@@ -33,8 +33,8 @@ fn few_of(alloc: Global, count: u64) -> Result<Few<u8>, Memory> {
     Ok(bytes)
 }
 
-/// A list of two lists that keep four items in place, with so many bytes and none: whether a copy is the same,
-/// and the length and the fifth byte of its first list.
+/// A list of two lists that keep four items in place, with so many bytes and none: whether a copy is the
+/// same, and the length and the fifth byte of its first list.
 pub fn few(alloc: Global, rest: &str, text: &mut String) -> Result<(), Memory> {
     let mut lists = Items::new(alloc);
     lists.push(few_of(alloc, number(rest))?)?;

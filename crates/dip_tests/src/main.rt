@@ -1,4 +1,5 @@
-//! Calls of the base crates, a case a line: the program reads lines from its input, and prints each with the answer.
+//! Calls of the base crates, a case a line: the program reads lines from its input, and prints each with
+//! the answer.
 #![tactic(auto)]
 
 mod files;

@@ -61,8 +61,9 @@ fn id_of(number: u64) -> u32
     number.min(2_147_483_647) as u32
 }
 
-/// A range and an id: whether it is in it, whether the range from the id to 100 overlaps it, the range moved up by
-/// the id, the id rounded up, and whether a count of it at place 1 goes before the start at place 0.
+/// A range and an id: whether it is in it, whether the range from the id to 100 overlaps it, the range
+/// moved up by the id, the id rounded up, and whether a count of it at place 1 goes before the start at
+/// place 0.
 pub fn ids(numbers: &[u64], text: &mut String) -> Result<(), Memory> {
     let [start, end, id] = numbers else {
         return say(text, "not three numbers");

@@ -93,6 +93,7 @@ fn two_of(numbers: &[u64]) -> Option<(AddressSet, AddressSet)> {
     Some((set, other))
 }
 
+// Two sets, where the numbers are sets'.
 fn pair(alloc: Global, numbers: &[u64], text: &mut String) -> Result<(), Memory> {
     match two_of(numbers) {
         Some((set, other)) => of_two(alloc, &set, &other, text),
@@ -160,7 +161,8 @@ fn sizes(numbers: &[u64], text: &mut String) -> Result<(), Memory> {
     say_whether(text, sizes.contains(256))
 }
 
-// What two ranges of sizes have in common, the least one that has both, and whether the first is within the second.
+// What two ranges of sizes have in common, the least one that has both, and whether the first is within
+// the second.
 fn two_sizes(numbers: &[u64], text: &mut String) -> Result<(), Memory> {
     let [least, greatest, other_least, other_greatest] = numbers else {
         return say(text, "not four numbers");

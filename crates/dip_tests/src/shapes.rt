@@ -22,6 +22,19 @@ inner = { a = 1, b = \"x\" }
 [[tables]]
 ";
 
+// The two integers under a key.
+fn pair_under(tree: &Table, key: &str) -> Option<(i64, i64)> {
+    pair(under(tree, key)?)
+}
+
+// Adds two integers to an answer, or `-` where there are none.
+fn add_pair(text: &mut String, found: Option<(i64, i64)>) -> Result<(), Memory> {
+    match found {
+        Some((first, second)) => Ok(write!(text, " {first},{second}")?),
+        None => say(text, "-"),
+    }
+}
+
 // The integer, the number from 0 to 7 and the two integers under a key.
 fn numbers_under(tree: &Table, key: &str, text: &mut String) -> Result<(), Memory> {
     match integer_under(tree, key) {
@@ -30,10 +43,7 @@ fn numbers_under(tree: &Table, key: &str, text: &mut String) -> Result<(), Memor
     }
     say_some(text, number_under(tree, key, 0, 7))?;
     say_some(text, number_under(tree, key, 7, 9))?;
-    match under(tree, key).and_then(pair) {
-        Some((first, second)) => Ok(write!(text, " {first},{second}")?),
-        None => say(text, "-"),
-    }
+    add_pair(text, pair_under(tree, key))
 }
 
 // What may stand under a key: an integer, a name, one of two texts.

@@ -20,7 +20,8 @@ fn spelled(digits: &str) -> Option<u64> {
     Some(number)
 }
 
-/// The number that a word is: decimal, or hexadecimal behind `0x`. The greatest one of 64 bits where it is none.
+/// The number that a word is: decimal, or hexadecimal behind `0x`. The greatest one of 64 bits where it
+/// is none.
 pub fn number(word: &str) -> u64 {
     let number = match word.strip_prefix("0x") {
         Some(digits) => spelled(digits),

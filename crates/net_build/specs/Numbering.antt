@@ -121,13 +121,13 @@ pub record KeepsValues (n : Netlist) (b : Built) : Type 0 where
   pub ticks : (ins : List ℕ) (v u : ℕ → ℕ) → length ins ≡ length n.inputs → AreValues n (ins ++ next_registers n v) u
       → Ticks b (at_wires b v) (at_wires b u)
 
--- one wire of this kind more
+-- one wire of this kind more; only functions that aren't public cite it
 abbrev pub counted : Counts → Kind → Counts
 counted c (Input name) = record { inputs = c.inputs + 1; regs = c.regs; gates = c.gates }
 counted c Register = record { inputs = c.inputs; regs = c.regs + 1; gates = c.gates }
 counted c (Gate op) = record { inputs = c.inputs; regs = c.regs; gates = c.gates + 1 }
 
--- a list of the nets of all wires
+-- a list of the nets of all wires; only functions that aren't public cite it
 pub record AreNets (ms : List Made) (nets : List ℕ) : Type 0 where
   pub long : length nets ≡ length ms
   pub each : (w : ℕ) → w < length ms → slice_index nets w ≡ net_of ms w

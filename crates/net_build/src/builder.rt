@@ -298,6 +298,7 @@ impl Builder {
         ensures wire { IsBit self.now result }
         ensures number { result.number ≡ 0 }
     {
+        // read here, so that what each builder keeps is known of it
         let _made = &self.made;
         Wire {
             number: 0,

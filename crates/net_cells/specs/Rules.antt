@@ -65,7 +65,7 @@ IsNamed front name = IsTrue (starts_with nat_eq name front) × (3 ≤ length nam
 abbrev pub port_names : Netlist → List (List ℕ)
 port_names n = map (λ (p : Port). p.name) n.inputs ++ map (λ (o : OutPort). o.name) n.outputs
 
--- the name at a place isn't the name at an earlier one
+-- the name at a place isn't the name at an earlier one; only functions that aren't public cite it
 abbrev pub IsFirst : List (List ℕ) → ℕ → Type 0
 IsFirst names place = All (λ x. Some x ≢ slice_get names place) (take place names)
 

@@ -42,31 +42,87 @@ pub fn shown(alloc: Global) -> Result<Netlist, Memory> {
     builder.finish()
 }
 
-// Four operators bit by bit.
+// Two operators bit by bit.
 #[tactic(auto, using(net_build::proofs::Steps::steps))]
-fn add_bitwise(builder: &mut Builder, x: Wire, y: Wire) -> Result<(), Memory>
+fn add_not_and(builder: &mut Builder, x: Wire, y: Wire) -> Result<(), Memory>
     requires wires { IsWire builder.old x × IsWire builder.old y }
     requires width { y.width ≡ x.width }
     ensures adds { IfOk result (λ _. Adds builder.old builder.new) }
 {
     builder.not(x)?;
     builder.and(x, y)?;
+    Ok(())
+}
+
+// Two more.
+#[tactic(auto, using(net_build::proofs::Steps::steps))]
+fn add_or_xor(builder: &mut Builder, x: Wire, y: Wire) -> Result<(), Memory>
+    requires wires { IsWire builder.old x × IsWire builder.old y }
+    requires width { y.width ≡ x.width }
+    ensures adds { IfOk result (λ _. Adds builder.old builder.new) }
+{
     builder.or(x, y)?;
     builder.xor(x, y)?;
     Ok(())
 }
 
-// A sum, a difference and two comparisons.
+// A sum and a difference.
 #[tactic(auto, using(net_build::proofs::Steps::steps))]
-fn add_numeric(builder: &mut Builder, x: Wire, y: Wire) -> Result<(), Memory>
+fn add_add_sub(builder: &mut Builder, x: Wire, y: Wire) -> Result<(), Memory>
     requires wires { IsWire builder.old x × IsWire builder.old y }
     requires width { y.width ≡ x.width }
     ensures adds { IfOk result (λ _. Adds builder.old builder.new) }
 {
     builder.add(x, y)?;
     builder.sub(x, y)?;
+    Ok(())
+}
+
+// Two comparisons.
+#[tactic(auto, using(net_build::proofs::Steps::steps))]
+fn add_eq_less(builder: &mut Builder, x: Wire, y: Wire) -> Result<(), Memory>
+    requires wires { IsWire builder.old x × IsWire builder.old y }
+    requires width { y.width ≡ x.width }
+    ensures adds { IfOk result (λ _. Adds builder.old builder.new) }
+{
     builder.eq(x, y)?;
     builder.less(x, y)?;
+    Ok(())
+}
+
+// All operators bit by bit.
+#[tactic(auto, using(net_build::proofs::Steps::steps))]
+fn add_bitwise(builder: &mut Builder, x: Wire, y: Wire) -> Result<(), Memory>
+    requires wires { IsWire builder.old x × IsWire builder.old y }
+    requires width { y.width ≡ x.width }
+    ensures adds { IfOk result (λ _. Adds builder.old builder.new) }
+{
+    add_not_and(builder, x, y)?;
+    add_or_xor(builder, x, y)?;
+    Ok(())
+}
+
+// Sums and comparisons.
+#[tactic(auto, using(net_build::proofs::Steps::steps))]
+fn add_numeric(builder: &mut Builder, x: Wire, y: Wire) -> Result<(), Memory>
+    requires wires { IsWire builder.old x × IsWire builder.old y }
+    requires width { y.width ≡ x.width }
+    ensures adds { IfOk result (λ _. Adds builder.old builder.new) }
+{
+    add_add_sub(builder, x, y)?;
+    add_eq_less(builder, x, y)?;
+    Ok(())
+}
+
+// All operators that take two wires of one width.
+#[tactic(auto, using(net_build::proofs::Steps::steps))]
+fn add_operators(builder: &mut Builder, x: Wire, y: Wire) -> Result<(), Memory>
+    requires wires { IsWire builder.old x × IsWire builder.old y }
+    requires width { y.width ≡ x.width }
+    ensures adds { IfOk result (λ _. Adds builder.old builder.new) }
+{
+    add_bitwise(builder, x, y)?;
+    add_numeric(builder, x, y)?;
     Ok(())
 }
 
@@ -75,8 +131,7 @@ pub fn operators(alloc: Global) -> Result<Netlist, Memory> {
     let mut builder = Builder::new(alloc, name(alloc, "m_t")?)?;
     let x = builder.input(name(alloc, "p_x")?, 64)?;
     let y = builder.input(name(alloc, "p_y")?, 64)?;
-    add_bitwise(&mut builder, x, y)?;
-    add_numeric(&mut builder, x, y)?;
+    add_operators(&mut builder, x, y)?;
     builder.finish()
 }
 

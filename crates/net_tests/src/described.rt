@@ -1,3 +1,5 @@
+ghost use Rattle.std.specs.Prelude.{◌≡◌, IfOk};
+
 use dip_lists::{Items, Memory};
 use dip_sets::Name;
 use net_cells::{Cell, CellOp, Netlist, OutPort, Port, Reg};
@@ -19,7 +21,9 @@ pub fn width(word: &str) -> u32 {
 }
 
 /// The name that a word is.
-pub fn name(alloc: Global, word: &str) -> Result<Name, Memory> {
+pub fn name(alloc: Global, word: &str) -> Result<Name, Memory>
+    ensures { IfOk result (λ name. name ≡ word.now) }
+{
     Name::new(alloc, word)?.ok_or(Memory)
 }
 

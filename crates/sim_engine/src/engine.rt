@@ -21,9 +21,13 @@ use std::marker::Model;
 pub struct Engine {
     netlist: Netlist,
     steps: Vec<Step>,
+    // the nets of the outputs
     shown: Vec<u64>,
+    // the next nets of the registers
     nexts: Vec<u64>,
+    // the values of all nets
     values: Vec<u64>,
+    // what the registers take at the end of a cycle
     kept: Vec<u64>,
 }
 

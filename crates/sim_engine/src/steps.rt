@@ -149,6 +149,7 @@ fn kind_value(kind: Kind, bits: u64, shift: u32, x: u64, y: u64, z: u64) -> u64
 {
     match kind {
         Kind::Const => bits,
+        // no operand has a bit that these lack, so the difference inverts each bit
         Kind::Not => bits.saturating_sub(x),
         Kind::And => x & y,
         Kind::Or => x | y,
@@ -187,7 +188,8 @@ fn take_all(values: &mut [u64], kind: Kind, steps: &[Step])
     }
 }
 
-// Takes steps with one operator, which each loop knows by itself.
+// Takes steps with one operator. Each arm is a loop of its own, compiled for its operator, so that no step
+// branches on it.
 fn take_run(values: &mut [u64], kind: Kind, steps: &[Step])
     requires kinds { All (λ (s : Step). s.kind ≡ kind) steps.now }
     requires among { All (IsAmong (length values.old)) steps.now }

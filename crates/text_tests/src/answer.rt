@@ -1,3 +1,5 @@
+ghost use Rattle.net_cells.specs.Rules.{IsWellFormed};
+
 use net_cells::Netlist;
 use std::alloc::Global;
 use std::io;
@@ -17,7 +19,9 @@ pub enum Answer {
 }
 
 // Whether a text is the printed one of the netlist that was read of it.
-fn printed(alloc: Global, netlist: &Netlist, text: &[u8]) -> Answer {
+fn printed(alloc: Global, netlist: &Netlist, text: &[u8]) -> Answer
+    requires { IsWellFormed netlist.now }
+{
     match print(alloc, netlist) {
         Ok(again) => {
             if again.as_slice() == text {
@@ -31,7 +35,7 @@ fn printed(alloc: Global, netlist: &Netlist, text: &[u8]) -> Answer {
 }
 
 /// What reading answers to a text.
-pub fn answer(alloc: Global, text: &[u8]) -> Answer {
+pub fn answer_to(alloc: Global, text: &[u8]) -> Answer {
     match read(alloc, text) {
         Ok(netlist) => printed(alloc, &netlist, text),
         Err(TextFault::NotText { place }) => Answer::Refused(place),

@@ -1,4 +1,4 @@
-use crate::answer::{Answer, answer, show};
+use crate::answer::{Answer, answer_to, show};
 use std::alloc::AllocError;
 use std::io;
 
@@ -32,13 +32,13 @@ pub fn change(
         with,
         &mut changed,
     )?;
-    show(rt, "changed", answer(rt.alloc(), changed.as_slice()))
+    show(rt, "changed", answer_to(rt.alloc(), changed.as_slice()))
 }
 
 /// Prints where each front of a text is refused, from the empty one on; `-` where it isn't.
 pub fn fronts(rt: &HostRuntime, text: &[u8]) -> io::Result<()> {
     for end in 0..text.len() {
-        match answer(rt.alloc(), text.get(..end).unwrap_or(b"")) {
+        match answer_to(rt.alloc(), text.get(..end).unwrap_or(b"")) {
             Answer::Refused(place) => println!(rt; "{end} {place}")?,
             _ => println!(rt; "{end} -")?,
         }
@@ -55,7 +55,7 @@ fn with_inserted(
 ) -> Result<Answer, AllocError> {
     let mut changed = Vec::new(rt.alloc());
     put_changed(text, place, place, with, &mut changed)?;
-    Ok(answer(rt.alloc(), changed.as_slice()))
+    Ok(answer_to(rt.alloc(), changed.as_slice()))
 }
 
 // Prints the answer to a byte put in, where it isn't a refusal at its own place.

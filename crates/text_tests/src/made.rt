@@ -1,4 +1,4 @@
-use crate::answer::{answer, show};
+use crate::answer::{answer_to, show};
 use std::alloc::AllocError;
 use std::io;
 
@@ -36,5 +36,5 @@ pub fn large(rt: &HostRuntime, cells: u64) -> io::Result<()> {
         return println!(rt; "large: out of memory");
     }
     println!(rt; "{} bytes", text.len())?;
-    show(rt, "large", answer(rt.alloc(), text.as_bytes()))
+    show(rt, "large", answer_to(rt.alloc(), text.as_bytes()))
 }

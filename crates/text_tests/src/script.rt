@@ -1,4 +1,4 @@
-use crate::answer::{answer, show, show_netlist};
+use crate::answer::{answer_to, show, show_netlist};
 use crate::changes::{bytes, change, comments, fronts};
 use crate::made::large;
 use std::alloc::{AllocError, Global};
@@ -114,7 +114,7 @@ impl Script {
     fn take_text(&mut self, rt: &HostRuntime, line: &str) -> io::Result<()> {
         if line == "." {
             self.open = false;
-            return show(rt, "text", answer(rt.alloc(), self.text.as_slice()));
+            return show(rt, "text", answer_to(rt.alloc(), self.text.as_slice()));
         }
         self.text.extend_from_slice(line.as_bytes())?;
         self.text.push(b'\n')?;

@@ -58,50 +58,65 @@ example_port name node number = record { edge = number; node = node; port = 0; n
 
 -- ---- the edges, by their numbers from 0
 
+-- edge 0: from the core to the shrinker
 abbrev pub from_core : PlanEdge
 from_core = edge 8 4 (memory ∷ device (size_range 1 64) ∷ [])
 
+-- edge 1: from the shrinker to the crossbar
 abbrev pub to_crossbar : PlanEdge
 to_crossbar = edge 8 2 (memory ∷ device (size_range 1 64) ∷ [])
 
+-- edge 2: from the crossbar to the buffer
 abbrev pub to_buffer : PlanEdge
 to_buffer = edge 8 2 (memory ∷ [])
 
+-- edge 3: from the buffer to the memory
 abbrev pub to_memory : PlanEdge
 to_memory = edge 8 2 (memory ∷ [])
 
+-- edge 4: from the crossbar to the width adapter
 abbrev pub to_width : PlanEdge
 to_width = edge 8 2 (device (size_range 1 64) ∷ [])
 
+-- edge 5: from the width adapter to the fragmenter
 abbrev pub to_fragmenter : PlanEdge
 to_fragmenter = edge 4 2 (device (size_range 1 64) ∷ [])
 
+-- edge 6: from the fragmenter to the device, in transfers of at most a beat
 abbrev pub to_device : PlanEdge
 to_device = edge 4 2 (device (size_range 1 4) ∷ [])
 
 -- ---- the leaves and ports
 
+-- makes four ids two
 abbrev pub shrinker : Leaf
 shrinker = leaf Shrinker (2 ∷ []) (0 ∷ []) (1 ∷ [])
 
+-- joins the core to memory and device
 abbrev pub crossbar : Leaf
 crossbar = leaf Xbar [] (1 ∷ []) (2 ∷ 4 ∷ [])
 
+-- before the memory
 abbrev pub buffer : Leaf
 buffer = leaf Buffer [] (2 ∷ []) (3 ∷ [])
 
+-- from eight bytes to four
 abbrev pub width_adapter : Leaf
 width_adapter = leaf Width (8 ∷ []) (4 ∷ []) (5 ∷ [])
 
+-- cuts transfers to 64 bytes into pieces of 4
 abbrev pub fragmenter : Leaf
 fragmenter = leaf Fragmenter (4 ∷ 64 ∷ []) (5 ∷ []) (6 ∷ [])
 
+-- where requests enter
 abbrev pub core : PlanPort
 core = example_port (codes "core") 0 0
 
+-- where those to the memory leave
 abbrev pub ram : PlanPort
 ram = example_port (codes "ram") 4 3
 
+-- where those to the device leave
 abbrev pub uart : PlanPort
 uart = example_port (codes "uart") 7 6
 

@@ -13,7 +13,7 @@ pub(crate) struct Lanes {
 }
 
 impl Lanes {
-    // The active lanes of a message of a size at an address.
+    /// The active lanes of a message of a size at an address.
     pub fn of(width: u32, size: u32, address: u64) -> Lanes
         requires width { IsTrue (is_width width) }
         requires size { size ≤ 8 }
@@ -30,7 +30,7 @@ impl Lanes {
         Lanes { first, count }
     }
 
-    // A bit for each of the lanes.
+    /// A bit for each of the lanes.
     pub fn mask(&self) -> u64
         requires { self.now.first + self.now.count ≤ spec.most_lanes }
         ensures { result ≡ spec.on_lanes 2 self.now.first (replicate self.now.count 1) }

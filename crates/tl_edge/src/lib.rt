@@ -1,5 +1,5 @@
-//! What crosses an edge: the widths of its wires, messages, and the beats that carry them; and plans, of which
-//! networks are built.
+//! What crosses an edge: the widths of its wires, messages, and the beats that carry them; and plans, of
+//! which networks are built.
 #![tactic(auto)]
 
 mod beat;

@@ -2,7 +2,7 @@ ghost use Rattle.std.specs.Prelude.{IsTrue};
 ghost use Rattle.tl_edge.specs.Messages as messages;
 ghost use Rattle.tl_params.specs.Arguments as arguments;
 
-use crate::made::{Fields, may_be_sent, request_of, response_to};
+use crate::messages::{Fields, may_be_sent, request_of, response_to};
 use crate::words::{number, numbers, op_of, say, say_number, say_whether};
 use dip_lists::Memory;
 use std::alloc::Global;
@@ -22,8 +22,8 @@ pub fn count(rest: &str, text: &mut String) -> Result<(), Memory> {
     say_number(text, u64::from(beats(op_of(op), size, width)))
 }
 
-// The width of a bus, and the fields of a request: the operation, its size, source and address, its flags and the first
-// of its bytes.
+// The width of a bus, and the fields of a request: the operation, its size, source and address, its flags
+// and the first of its bytes.
 fn fields_of(alloc: Global, rest: &str) -> Result<Option<(u32, Fields)>, Memory> {
     let (width, rest) = rest.split_once(' ').unwrap_or((rest, ""));
     let (op, rest) = rest.split_once(' ').unwrap_or((rest, ""));
@@ -118,8 +118,8 @@ fn back_on(
     add_back(text, back.as_slice(), &response)
 }
 
-/// The beats of the response to a request: the width of the bus and the fields of the request, and the first byte of
-/// the response, which is denied where the flags are 0.
+/// The beats of the response to a request: the width of the bus and the fields of the request, and the
+/// first byte of the response, which is denied where the flags are 0.
 pub fn back(alloc: Global, rest: &str, text: &mut String) -> Result<(), Memory> {
     let Some((width, fields)) = fields_of(alloc, rest)? else {
         return say(text, "no such case");

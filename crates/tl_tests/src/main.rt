@@ -1,9 +1,10 @@
-//! Calls on parameters, messages and beats, a case a line: the program reads lines from its input, and prints each
-//! with the answer.
+//! Calls on parameters, messages and beats, a case a line: the program reads lines from its input, and
+//! prints each with the answer.
 #![tactic(auto)]
 
 mod beats;
 mod made;
+mod messages;
 mod ports;
 mod words;
 

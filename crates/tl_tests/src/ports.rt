@@ -64,8 +64,8 @@ fn name_of(ack: Ack) -> &'static str {
     }
 }
 
-/// What answers each operation: `+` in front where it has data, `?` behind where it has flags, `!` where the answer
-/// brings data.
+/// What answers each operation: `+` in front where it has data, `?` behind where it has flags, `!` where
+/// the answer brings data.
 pub fn answers(text: &mut String) -> Result<(), Memory> {
     for op in OPS {
         let ack = ack_of(*op);
@@ -137,7 +137,8 @@ fn add_bundle(
     )?)
 }
 
-/// The widths of an edge: the base, the mask and the greatest size of its slave, and two ends of its masters' ids.
+/// The widths of an edge: the base, the mask and the greatest size of its slave, and two ends of its
+/// masters' ids.
 pub fn bundle(alloc: Global, rest: &str, text: &mut String) -> Result<(), Memory> {
     let numbers = numbers(alloc, rest)?;
     let [base, mask, most, end, last] = numbers.as_slice() else {

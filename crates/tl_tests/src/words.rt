@@ -12,19 +12,18 @@ fn digit_of(letter: u8) -> Option<u64> {
     }
 }
 
-/// The number that hexadecimal digits spell; 0 where they spell none of 64 bits.
-pub fn number(digits: &str) -> u64 {
+// The number that hexadecimal digits spell, if they spell one of 64 bits.
+fn spelled(digits: &str) -> Option<u64> {
     let mut number = 0u64;
     for letter in digits.as_bytes() {
-        let Some(digit) = digit_of(*letter) else {
-            return 0;
-        };
-        if number > u64::MAX / 16 {
-            return 0;
-        }
-        number = number * 16 + digit;
+        number = number.checked_mul(16)?.checked_add(digit_of(*letter)?)?;
     }
-    number
+    Some(number)
+}
+
+/// The number that hexadecimal digits spell; 0 where they spell none of 64 bits.
+pub fn number(digits: &str) -> u64 {
+    spelled(digits).unwrap_or(0)
 }
 
 /// The hexadecimal numbers that words are.
