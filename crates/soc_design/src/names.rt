@@ -56,7 +56,8 @@ fn module_after(
     requires some { 1 ≤ length earlier.now }
     requires few { length earlier.now ≤ 256 }
     ensures value { IfOk result (λ entry. entry ≡ spec.module_after earlier.now (view value.now)) }
-    ensures new { IfOk result (λ found. IfSome found (λ entry. list_any (bytes_eq entry.name) earlier.now ≡ false)) }
+    ensures new { IfOk result (λ found. IfSome found (λ entry. list_any (bytes_eq entry.name)
+        earlier.now ≡ false)) }
     ensures earlier { IfOk result (λ found. IfSome found (λ entry. entry.parent < length earlier.now)) }
     ensures named { IfOk result (λ found. IfSome found (λ entry. entry.name ≡ spec.name_at
         (view value.now))) }
