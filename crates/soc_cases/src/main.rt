@@ -1,7 +1,7 @@
 //! Runs cases of `soc` by the standard rules, and prints how each ends.
 //!
-//! A line of the input is a title, which is printed (`# ..`), a line of the design file `a.toml` (`|..`), such
-//! a line so many times (`*N|..`, with its number in the place of `#` and the next in the place of `@`), or a
+//! A line of the input is a title, which is printed (`# ..`), a line of the design file `a.toml` (`|..`),
+//! such a line so many times (`*N|..`, with its number in the place of `#` and the next in that of `@`), or a
 //! command: `new` begins a design file, `keep` keeps it for changes, `pad N` fills it with line ends up to N
 //! bytes, `map` runs `map a.toml` on it, `change OLD|NEW` does so with a text of the kept one changed (`^` is
 //! a line end), `cuts` on each front of it, `puts` where each put fails in turn, `loads` where the first load
