@@ -1,5 +1,5 @@
 -- Edges that pass check 14 have no address in two sets.
-use Rattle.std.proofs.Common.{ℕ, ◌≡◌, ◌+◌, ◌<◌, List, [], ◌∷◌, ◌++◌, length, get_or, Bool, true, false, ◌||◌, cond, Option, Some, None, Result, Ok, Err, refl, sym, subst, arith}
+use Rattle.std.proofs.Common.{ℕ, ◌≡◌, ◌+◌, ◌<◌, List, [], ◌∷◌, ◌++◌, length, get_or, Bool, true, false, cond, Option, Some, None, Result, Ok, Err, refl, sym, subst, arith}
 use Rattle.std.specs.Prelude.{OnOk, slice_get}
 use Rattle.std.specs.List.{All, AllPairs, Any, list_any}
 use Rattle.std.specs.Option.{IsSomeAnd}
@@ -9,15 +9,12 @@ use Rattle.std.proofs.lemmas.List.Kept.{AllPairs-cons}
 use Rattle.dip_sets.specs.Sets.{Pattern, Disjoint, overlap}
 use Rattle.dip_sets.proofs.Members.{disjoint_from_test}
 use Rattle.dip_lists.specs.First.{first, places}
+use Rattle.dip_lists.proofs.Tests.{neither}
 use Rattle.tl_params.specs.declared.ports.Slave.{Slave}
 use Rattle.tl_params.specs.declared.ports.UpPort.{UpPort}
 use Rattle.tl_params.specs.Owners.{sets_of}
 use Rattle.dip_checks.specs.Checks.{has_overlap, edge_overlaps, overlapping_edges}
 use Rattle.tl_params.specs.Apart.{HasDisjointSets}
-
-neither : (a b : Bool) → (a || b) ≡ false → (a ≡ false) × (b ≡ false)
-neither true b h = (cc)
-neither false b h = (refl, h)
 
 apart_from_none : (s : Pattern) (sets : List Pattern) → list_any (overlap s) sets ≡ false → All (Disjoint s) sets
 apart_from_none s [] h = λ k d lt. absurd (omega arith)
@@ -31,7 +28,7 @@ all_apart (s ∷ sets) h =
     let both = neither (list_any (overlap s) sets) (has_overlap sets) h in
     AllPairs-cons Disjoint s sets (apart_from_none s sets both.0) (all_apart sets both.1)
 
-passes_here : (fails : Bool) (number : ℕ) (rest : List ℕ) → first (cond fails (number ∷ rest) rest) ≡ None → (fails ≡ false) × (first rest ≡ None)
+pub passes_here : (fails : Bool) (number : ℕ) (rest : List ℕ) → first (cond fails (number ∷ rest) rest) ≡ None → (fails ≡ false) × (first rest ≡ None)
 passes_here true number rest h = (cc)
 passes_here false number rest h = (refl, h)
 

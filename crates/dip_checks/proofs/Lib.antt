@@ -1,7 +1,7 @@
 pub mod Disjointness
 pub mod Rows
-pub mod Owners
 pub mod Order
 pub mod Stars
 pub mod Refusals
 pub mod Solved
+mod Passed

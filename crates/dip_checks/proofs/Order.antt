@@ -8,6 +8,7 @@ use Rattle.std.proofs.lemmas.List.Kept.{AllPairs-cons}
 use Rattle.dip_lists.specs.First.{Check, places}
 use Rattle.dip_lists.specs.FirstLaw.{Precedes, HasRisingSubjects, AreInOrder}
 use Rattle.dip_lists.proofs.FirstFailures.{first_law}
+use Rattle.dip_lists.proofs.Tests.{both}
 use Rattle.tl_params.specs.declared.ports.DownPort.{DownPort}
 use Rattle.tl_params.specs.declared.ports.UpPort.{UpPort}
 use Rattle.dip_graph.specs.Orders.{canonical_order, is_listed}
@@ -68,10 +69,6 @@ refusing_rises node (Err refused) = one_rises (node refused.edge)
 abbrev numbers_rise : List Check → Bool
 numbers_rise [] = true
 numbers_rise (c ∷ checks) = list_all (λ later. nat_lt c.number later.number) checks && numbers_rise checks
-
-both : (a b : Bool) → (a && b) ≡ true → (a ≡ true) × (b ≡ true)
-both true b h = (refl, h)
-both false b h = absurd (cc)
 
 below_all : (c : Check) (checks : List Check) → list_all (λ later. nat_lt c.number later.number) checks ≡ true → All (Precedes c) checks
 below_all c [] h = All-nil (Precedes c)

@@ -13,6 +13,7 @@ use Rattle.std.proofs.lemmas.List.Sorted.{IsPermutation-sym}
 use Rattle.std.proofs.lemmas.Map.Keys.{IsDistinct-from_apart, IsDistinct-IsPermutation}
 use Rattle.dip_sets.specs.Sets.{Pattern, IsSet, In, Overlap, overlap}
 use Rattle.dip_sets.proofs.Bits.{apart_bits, overlaps_is}
+use Rattle.dip_lists.proofs.Tests.{neither}
 use Rattle.dip_checks.specs.Checks.{has_overlap}
 use Rattle.dip_checks.specs.Rows.{EndsBefore}
 
@@ -75,10 +76,6 @@ row_pairs [] h = λ i j d before within. absurd (omega arith)
 row_pairs (s ∷ sets) h = AllPairs-cons EndsBefore s sets (before_all s sets h) (row_pairs sets (tail_row s sets h))
 
 -- ---- the test by pairs, in any order
-
-neither : (a b : Bool) → (a || b) ≡ false → (a ≡ false) × (b ≡ false)
-neither true b h = (cc)
-neither false b h = (refl, h)
 
 none_of : (s : Pattern) (sets : List Pattern) → AllByRecursion (λ t. overlap s t ≡ false) sets → list_any (overlap s) sets ≡ false
 none_of s [] h = refl

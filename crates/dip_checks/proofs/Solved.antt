@@ -2,12 +2,13 @@
 use Rattle.std.proofs.Common.{◌≡◌, List, None, Ok, sym, subst}
 use Rattle.std.specs.Prelude.{All}
 use Rattle.dip_lists.specs.First.{first}
+use Rattle.dip_graph.specs.Edges.{HasNodes}
 use Rattle.dip_graph.specs.Orders.{left_out}
 use Rattle.dip_graph.specs.declared.design.Design.{Design}
 use Rattle.dip_graph.specs.declared.edges.Edge.{Edge}
 use Rattle.dip_rule.specs.Stated.{StatedRule}
 use Rattle.dip_negotiate.specs.declared.solution.Solution.{Solution}
-use Rattle.dip_negotiate.specs.Negotiation.{HasNodes, IsNegotiable, IsOnlySolution, downs, ups}
+use Rattle.dip_negotiate.specs.Negotiation.{IsNegotiable, IsOnlySolution, downs, ups}
 use Rattle.dip_negotiate.proofs.Law.{negotiation}
 use Rattle.dip_stars.proofs.Follow.{each_follows}
 use Rattle.dip_checks.specs.Checks.{edges_in}

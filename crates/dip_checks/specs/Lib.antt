@@ -1,5 +1,4 @@
 pub mod Weights
 pub mod Checks
-pub mod Apart
 pub mod Rows
 pub mod Laws

@@ -1,7 +1,8 @@
 ghost use Rattle.std.specs.Prelude.{◌≡◌, ◌<◌, ◌≤◌, ◌^◌, ◌++◌, length, None, Ok, IfOk, IfErr, OnOk, All};
 ghost use Rattle.dip_lists.specs.First.{first_failing};
 ghost use Rattle.dip_graph.specs.Faults.{IsFaultOf};
-ghost use Rattle.dip_negotiate.specs.Negotiation.{HasNodes, IsOnlySolution, downs, ups};
+ghost use Rattle.dip_graph.specs.Edges.{HasNodes};
+ghost use Rattle.dip_negotiate.specs.Negotiation.{IsOnlySolution, downs, ups};
 ghost use Rattle.tl_params.specs.Apart.{HasDisjointSets, HasOneOwnerEach};
 ghost use Rattle.dip_checks.specs.Checks as spec;
 
@@ -63,8 +64,8 @@ fn solved(alloc: Global, rules: &Rules, design: &Design, edges: &[Edge]) -> Resu
 /// The edges and the only solution of a design, by these rules.
 ///
 /// `Fault::Check` names the first of the checks 5 to 18 that fails, with the number of the bind, the node
-/// or the edge
-/// at which it does, or how many edges there are, or the weight. After `Fault::Memory` nothing is known.
+/// or the edge at which it does, or how many edges there are, or the weight. After `Fault::Memory` nothing
+/// is known.
 #[tactic(auto, using(crate::proofs::Solved::only_solution), unfolding(crate::specs::Checks::design_checks))]
 pub fn check_design(alloc: Global, design: &Design, rules: &Rules) -> Result<Accepted, Fault>
     requires nodes { length design.now.nodes ≤ 256 }

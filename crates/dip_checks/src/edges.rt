@@ -28,6 +28,7 @@ fn shares_ids(master: &Master, others: &[Master]) -> bool
     others.iter().any(|other| master.ids.overlaps(&other.ids))
 }
 
+// Whether two masters have an id in common.
 fn share_ids(masters: &[Master]) -> bool
     ensures { result ≡ spec.share_ids masters.now }
 {
@@ -45,12 +46,14 @@ fn some_have_wrong_ids(masters: &[Master]) -> bool
     masters.iter().any(has_wrong_ids)
 }
 
+// Whether an edge has no masters, or ids that are none, too large, or another master's.
 fn masters_are_wrong(masters: &[Master]) -> bool
     ensures { result ≡ spec.masters_are_wrong masters.now }
 {
     masters.is_empty() || some_have_wrong_ids(masters) || share_ids(masters)
 }
 
+// The least edge with wrong ids.
 fn wrong_edge(downs: &[DownPort]) -> Option<u64>
     ensures { result ≡ first (spec.wrong_edges downs.now) }
 {
@@ -76,6 +79,7 @@ fn ids_are_right(downs: &[DownPort]) -> Result<(), Fault>
     }
 }
 
+// Whether two address sets of an edge have a common address.
 fn edge_overlaps(alloc: Global, up: &UpPort) -> Result<bool, Memory>
     ensures { IfOk result (λ overlaps. overlaps ≡ spec.edge_overlaps up.now) }
 {
@@ -124,6 +128,7 @@ fn sets_are_apart(alloc: Global, ups: &[UpPort]) -> Result<(), Fault>
     Ok(())
 }
 
+// The least edge with a set whose alignment is too small.
 fn misaligned_edge(ups: &[UpPort]) -> Option<u64>
     ensures { result ≡ first (spec.misaligned_edges ups.now) }
 {

@@ -1,14 +1,13 @@
 ghost use Rattle.std.specs.Prelude.{◌≡◌, ◌<◌, ◌^◌, None, length, not, ◌==◌, IfOk, IfErr, OnOk};
 ghost use Rattle.std.specs.List.{list_any};
-ghost use Rattle.dip_lists.specs.First.{first, first_failing, places};
+ghost use Rattle.dip_lists.specs.First.{first, first_failing};
 ghost use Rattle.dip_graph.specs.Faults.{IsFaultAt, IsFaultOf};
 ghost use Rattle.dip_checks.specs.Checks as spec;
-ghost use Rattle.dip_checks.specs.Weights.{edges_from, edges_to, weight};
+ghost use Rattle.dip_checks.specs.Weights.{weight};
 
 use crate::weights::weight;
-use dip_graph::{Edge, Fault, NodeEntry, NodeKind, Numbers};
-use dip_lists::{Items, Memory};
-use dip_negotiate::is_nexus_node;
+use dip_graph::{Edge, Fault, NodeEntry, NodeKind, edges_at, edges_from, edges_to, ruled_kind_at};
+use dip_lists::Memory;
 use dip_rule::{Rules, Stating};
 use std::alloc::Global;
 use tl_params::{Args, DownPort, UpPort};
@@ -16,47 +15,6 @@ use tl_rules::fits;
 
 /// The most weight of a design.
 const MOST_WEIGHT: u64 = 65_536;
-
-/// The numbers of the edges to a node.
-pub fn edges_to(alloc: Global, node: u32, edges: &[Edge]) -> Result<Numbers, Memory>
-    requires { length edges.now < 2 ^ 32 }
-    ensures { IfOk result (λ numbers. numbers ≡ edges_to node edges.now) }
-{
-    let mut numbers = Items::new(alloc);
-    for (number, edge) in edges.iter().enumerate() {
-        if edge.to == node {
-            numbers.push(number as u32)?;
-        }
-    }
-    Ok(numbers)
-}
-
-/// The numbers of the edges from a node.
-pub fn edges_from(alloc: Global, node: u32, edges: &[Edge]) -> Result<Numbers, Memory>
-    requires { length edges.now < 2 ^ 32 }
-    ensures { IfOk result (λ numbers. numbers ≡ edges_from node edges.now) }
-{
-    let mut numbers = Items::new(alloc);
-    for (number, edge) in edges.iter().enumerate() {
-        if edge.from == node {
-            numbers.push(number as u32)?;
-        }
-    }
-    Ok(numbers)
-}
-
-fn edges_at(alloc: Global, node: u32, edges: &[Edge]) -> Result<Numbers, Memory>
-    requires { length edges.now < 2 ^ 32 }
-    ensures { IfOk result (λ numbers. numbers ≡ spec.edges_at node edges.now) }
-{
-    let mut numbers = Items::new(alloc);
-    for (number, edge) in edges.iter().enumerate() {
-        if edge.to == node || edge.from == node {
-            numbers.push(number as u32)?;
-        }
-    }
-    Ok(numbers)
-}
 
 fn beat_at(ups: &[UpPort], edge: u32) -> u32
     ensures { result ≡ spec.beat_at ups.now edge }
@@ -67,6 +25,7 @@ fn beat_at(ups: &[UpPort], edge: u32) -> u32
     }
 }
 
+// Whether one of some edges has a bus of another width than this edge.
 fn has_another_beat(ups: &[UpPort], edge: u32, others: &[u32]) -> bool
     ensures { result ≡ list_any (λ other. not (spec.beat_at ups.now other == spec.beat_at ups.now edge))
         others.now }
@@ -85,6 +44,7 @@ fn beats_differ(ups: &[UpPort], edges: &[u32]) -> bool
     }
 }
 
+// Whether a node is a nexus whose edges haven't all the same width of the bus.
 fn nexus_differs(
     alloc: Global,
     rules: &Rules,
@@ -97,7 +57,7 @@ fn nexus_differs(
     ensures { IfOk result (λ differs. differs ≡ spec.nexus_differs (⟦<Rules as Stating>⟧.stated
         rules.now) nodes.now edges.now ups.now node) }
 {
-    if !is_nexus_node(rules, nodes, node) {
+    if !rules.is_nexus_kind(ruled_kind_at(nodes, node)) {
         return Ok(false);
     }
     let numbers = edges_at(alloc, node, edges)?;
@@ -130,6 +90,7 @@ fn beats_are_equal(
     Ok(())
 }
 
+// Whether what is built for a node doesn't fit the ports of its edges.
 fn kind_misfits(
     alloc: Global,
     rules: &Rules,

@@ -10,6 +10,7 @@ use dip_rule::{Rules, Stating};
 use dip_stars::{StarFault, resolve};
 use std::alloc::Global;
 
+// Whether the kind of a node has no rule.
 fn kind_is_unruled(rules: &Rules, kind: &NodeKind) -> bool
     ensures { result ≡ spec.kind_is_unruled (⟦<Rules as Stating>⟧.stated rules.now) kind.now }
 {
@@ -19,6 +20,7 @@ fn kind_is_unruled(rules: &Rules, kind: &NodeKind) -> bool
     }
 }
 
+// The least node whose kind has no rule.
 fn unruled_node(rules: &Rules, nodes: &[NodeEntry]) -> Option<u64>
     ensures { result ≡ first (places (λ number node. spec.kind_is_unruled (⟦<Rules as Stating>⟧.stated
         rules.now) node.kind) 0 nodes.now) }
@@ -44,14 +46,16 @@ fn kinds_have_rules(design: &Design, rules: &Rules) -> Result<(), Fault>
     }
 }
 
+// Whether a bind is from a sink or to a source.
 fn bind_is_turned(nodes: &[NodeEntry], bind: &BindEntry) -> bool
     ensures { result ≡ spec.bind_is_turned nodes.now bind.now }
 {
-    let from_sink = matches!(kind_at(nodes, bind.from), Some(NodeKind::Sink { .. }));
-    let to_source = matches!(kind_at(nodes, bind.to), Some(NodeKind::Source { .. }));
+    let from_sink = matches!(kind_at(nodes, bind.from), Some(kind) if kind.is_sink());
+    let to_source = matches!(kind_at(nodes, bind.to), Some(kind) if kind.is_source());
     from_sink || to_source
 }
 
+// The least bind that is.
 fn turned_bind(nodes: &[NodeEntry], binds: &[BindEntry]) -> Option<u64>
     ensures { result ≡ first (places (λ number b. spec.bind_is_turned nodes.now b) 0 binds.now) }
 {
@@ -90,6 +94,7 @@ fn binds_make_no_cycle(alloc: Global, design: &Design) -> Result<(), Fault>
     }
 }
 
+// A fault of stars as one of the checks 8 to 10.
 #[tactic(auto, using(crate::proofs::Stars::failures))]
 fn star_fault(design: &Design, rules: &Rules, fault: StarFault) -> Fault
     requires { IsStarFault (⟦<Rules as Stating>⟧.stated rules.now) design.now.nodes (design_counts

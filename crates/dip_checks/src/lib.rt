@@ -14,4 +14,5 @@ mod weights;
 
 pub use accepted::Accepted;
 pub use check::check_design;
-pub use laws::{check_order_law, one_owner_law};
+pub use laws::{check_order_law, ports_law};
+pub use weights::weight;

@@ -9,6 +9,7 @@ use dip_negotiate::{NegFault, Solution, negotiate};
 use dip_rule::{Rules, Stating};
 use std::alloc::Global;
 
+// A refusal as one of the checks 11 and 12.
 #[tactic(auto, using(crate::proofs::Refusals::down_refused, crate::proofs::Refusals::up_refused))]
 fn refusal(design: &Design, edges: &[Edge], rules: &Rules, fault: NegFault) -> Fault
     requires { IsNegFault (⟦<Rules as Stating>⟧.stated rules.now) design.now edges.now fault }

@@ -48,8 +48,8 @@ fn stand_in_row(sets: &[AddressSet]) -> bool
 
 /// Whether two of some sets have a common address.
 ///
-/// Sorted by their bases, sets without holes that have none stand in a row. Only others are compared pair by
-/// pair.
+/// Sorted by their bases, sets without holes that have none stand in a row. Where they don't, all are
+/// compared pair by pair.
 pub fn some_overlap(sets: Items<AddressSet>) -> bool
     ensures { result ≡ spec.has_overlap sets }
 {
@@ -62,6 +62,7 @@ pub fn some_overlap(sets: Items<AddressSet>) -> bool
     has_overlap(sorted)
 }
 
+// Adds sets behind others.
 fn add_sets(all: &mut Items<AddressSet>, sets: &[AddressSet]) -> Result<(), Memory>
     ensures { OnOk result (all.new ≡ all.old ++ sets.now) }
 {
@@ -82,6 +83,7 @@ pub fn sets_of(alloc: Global, slaves: &[Slave]) -> Result<Items<AddressSet>, Mem
     Ok(sets)
 }
 
+// Whether a set of a slave has an alignment below its largest transfer.
 fn slave_is_misaligned(slave: &Slave) -> bool
     ensures { result ≡ spec.slave_is_misaligned slave.now }
 {

@@ -3,8 +3,7 @@ ghost use Rattle.tl_rules.specs.Fits.{port_down, port_up};
 ghost use Rattle.tl_params.specs.Owners as owners;
 ghost use Rattle.dip_checks.specs.Weights as spec;
 
-use crate::fit::{edges_from, edges_to};
-use dip_graph::{Edge, NodeEntry, NodeKind};
+use dip_graph::{Edge, NodeEntry, NodeKind, edges_from, edges_to};
 use dip_lists::Memory;
 use dip_rule::{Rules, Stating};
 use std::alloc::Global;
@@ -20,6 +19,7 @@ fn plus(a: u64, b: u64) -> Result<u64, Memory>
     }
 }
 
+// A product that doesn't fit counts as want of memory too.
 fn times(a: u64, b: u64) -> Result<u64, Memory>
     ensures { IfOk result (λ product. product ≡ a * b) }
 {
@@ -29,6 +29,7 @@ fn times(a: u64, b: u64) -> Result<u64, Memory>
     }
 }
 
+// How many ids come down an edge: they are below this number.
 fn end_at(downs: &[DownPort], edge: u32) -> u32
     ensures { result ≡ owners.largest_end (port_down downs.now edge).masters }
 {
@@ -38,6 +39,7 @@ fn end_at(downs: &[DownPort], edge: u32) -> u32
     }
 }
 
+// The weight of the width adapters below these edges.
 fn width_weight(downs: &[DownPort], edges: &[u32]) -> Result<u64, Memory>
     ensures { IfOk result (λ weight. weight ≡ spec.width_weight downs.now edges.now) }
 {
@@ -58,6 +60,7 @@ fn beats_at(ups: &[UpPort], edge: u32) -> u32
     }
 }
 
+// The weight of the fragmenters above these edges.
 fn fragmenter_weight(ups: &[UpPort], edges: &[u32]) -> Result<u64, Memory>
     ensures { IfOk result (λ weight. weight ≡ spec.fragmenter_weight ups.now edges.now) }
 {
@@ -68,6 +71,7 @@ fn fragmenter_weight(ups: &[UpPort], edges: &[u32]) -> Result<u64, Memory>
     Ok(weight)
 }
 
+// How many address sets slaves have.
 fn set_count(slaves: &[Slave]) -> Result<u64, Memory>
     ensures { IfOk result (λ count. count ≡ spec.set_count slaves.now) }
 {
@@ -78,6 +82,7 @@ fn set_count(slaves: &[Slave]) -> Result<u64, Memory>
     Ok(count)
 }
 
+// How many address sets are shown on an edge.
 fn sets_at(ups: &[UpPort], edge: u32) -> Result<u64, Memory>
     ensures { IfOk result (λ count. count ≡ spec.set_count (port_up ups.now edge).slaves) }
 {
@@ -87,6 +92,7 @@ fn sets_at(ups: &[UpPort], edge: u32) -> Result<u64, Memory>
     }
 }
 
+// How many are shown on these edges together.
 fn all_sets(ups: &[UpPort], edges: &[u32]) -> Result<u64, Memory>
     ensures { IfOk result (λ count. count ≡ spec.all_sets ups.now edges.now) }
 {
@@ -97,6 +103,7 @@ fn all_sets(ups: &[UpPort], edges: &[u32]) -> Result<u64, Memory>
     Ok(count)
 }
 
+// The weight of a crossbar between these edges.
 fn xbar_weight(ins: &[u32], outs: &[u32], ups: &[UpPort]) -> Result<u64, Memory>
     ensures { IfOk result (λ weight. weight ≡ length ins.now * (4 * length outs.now + spec.all_sets
         ups.now outs.now)) }
@@ -106,6 +113,7 @@ fn xbar_weight(ins: &[u32], outs: &[u32], ups: &[UpPort]) -> Result<u64, Memory>
     times(ins.len() as u64, each)
 }
 
+// The weight of what is built from a template between these edges.
 fn template_weight(
     template: Template,
     first: u32,
@@ -135,6 +143,7 @@ fn first_argument(args: &Args) -> u32
     }
 }
 
+// The weight of what is built for a node.
 fn kind_weight(
     alloc: Global,
     rules: &Rules,
@@ -167,6 +176,7 @@ fn kind_weight(
     )
 }
 
+// The weight of what is built for all nodes.
 fn node_weights(
     alloc: Global,
     rules: &Rules,

@@ -46,7 +46,8 @@ fn is_at(ends: Ends, node: u32, edge: &Edge) -> bool
 // The numbers of the edges that have one of these ends at a node.
 fn numbers_at(alloc: Global, ends: Ends, node: u32, edges: &[Edge]) -> Result<Numbers, Memory>
     requires { length edges.now < 2 ^ 32 }
-    ensures { IfOk result (λ numbers. numbers ≡ places (λ number edge. spec.is_at ends node edge) 0 edges.now) }
+    ensures { IfOk result (λ numbers. numbers ≡
+        places (λ number edge. spec.is_at ends node edge) 0 edges.now) }
 {
     let mut numbers = Items::new(alloc);
     for (number, edge) in edges.iter().enumerate() {

@@ -5,6 +5,7 @@ use crate::{Failed, Out};
 use dip_lists::Memory;
 use std::alloc::Global;
 
+// The struct has a ghost field, so the words that its contracts cite are named in its `impl`s.
 /// An output in memory, which tells everything and fails at the calls that it is told to.
 #[derive(Debug, Drop)]
 pub struct MemOut {

@@ -7,7 +7,8 @@ use indexmap::IndexMap;
 use std::alloc::Global;
 use std::marker::Model;
 
-/// Names by their numbers, which contracts see as the list of their bytes, in the order of adding.
+/// Names by their numbers, which contracts see as the list of their bytes, in the order of adding. Any text
+/// may be one; `dip_sets` has the names of a stated form.
 #[derive(Drop)]
 pub struct Names {
     alloc: Global,

@@ -69,11 +69,13 @@ says_up rules nodes edge outs = up_at rules edge.to edge.to_port (kind_at nodes 
 
 -- what goes down an edge is what its source node states of what goes down to that node
 abbrev pub down_pass : List StatedRule → List NodeEntry → List Edge → Pass DownPort
-down_pass rules nodes edges = record { says = says_down rules nodes; asks = asked rules nodes edges source_end sink_end }
+down_pass rules nodes edges =
+    record { says = says_down rules nodes; asks = asked rules nodes edges source_end sink_end }
 
 -- what goes up an edge is what its sink node states of what comes up to that node
 abbrev pub up_pass : List StatedRule → List NodeEntry → List Edge → Pass UpPort
-up_pass rules nodes edges = record { says = says_up rules nodes; asks = asked rules nodes edges sink_end source_end }
+up_pass rules nodes edges =
+    record { says = says_up rules nodes; asks = asked rules nodes edges sink_end source_end }
 
 -- what stands on an edge before what goes down it is known
 abbrev pub no_masters : DownPort
@@ -137,7 +139,8 @@ pub record IsNegotiable (design : Design) (edges : List Edge) : Type 0 where
   pub made : All (FollowsBind design.binds) edges
 
 -- The only solution: the ports of all edges down and up with which each edge's equations hold.
-pub record IsOnlySolution (rules : List StatedRule) (design : Design) (edges : List Edge) (solution : Solution) : Type 0 where
+pub record IsOnlySolution (rules : List StatedRule) (design : Design) (edges : List Edge)
+    (solution : Solution) : Type 0 where
   pub down : OnlySolves (down_pass rules design.nodes edges) edges solution.down
   pub up : OnlySolves (up_pass rules design.nodes edges) edges solution.up
 

@@ -1,4 +1,5 @@
-ghost use Rattle.std.specs.Prelude.{◌≡◌, ◌+◌, ◌<◌, ◌^◌, ℕ, List, Result, Ok, length, replicate, slice_get, slice_set, IfOk, IfErr, OnOk, [], ◌++◌};
+ghost use Rattle.std.specs.Prelude.{◌≡◌, ◌+◌, ◌<◌, ◌^◌, ℕ, List, Result, Ok, length, replicate};
+ghost use Rattle.std.specs.Prelude.{slice_get, slice_set, IfOk, IfErr, OnOk, [], ◌++◌};
 ghost use Rattle.dip_graph.specs.declared.design.NodeEntry.{NodeEntry};
 ghost use Rattle.dip_graph.specs.declared.edges.Edge.{Edge};
 ghost use Rattle.dip_rule.specs.Stated.{Answers, StatedRule};

@@ -109,8 +109,8 @@ fn up_ports(
 
 /// What goes down and up all edges of a design, by the rules of its nodes.
 ///
-/// `NegFault::DownRefused` names the first refusal in canonical order, and `NegFault::UpRefused`, where nothing
-/// is refused down, the first one in the reversed order.
+/// `NegFault::DownRefused` names the first refusal in canonical order, and `NegFault::UpRefused`, where
+/// nothing is refused down, the first one in the reversed order.
 pub fn negotiate(
     alloc: Global,
     design: &Design,

@@ -20,8 +20,8 @@ Answers stated (Err (Refused number)) = stated ≡ Err number
 Answers stated (Err Memory) = Unit {0}
 
 -- what may be asked on all arguments and ports, and answers only what is stated
-pub record IsStated {P : Type 0} (may : List ℕ → List P → Type 0) (gives : List ℕ → List P → Result P RuleFault → Type 0)
-    (stated : StatedAnswer P) : Type 0 where
+pub record IsStated {P : Type 0} (may : List ℕ → List P → Type 0)
+    (gives : List ℕ → List P → Result P RuleFault → Type 0) (stated : StatedAnswer P) : Type 0 where
   pub callable : (args : List ℕ) (ports : List P) → may args ports
   pub answers : (args : List ℕ) (ports : List P) (answer : Result P RuleFault) → gives args ports answer
       → Answers (stated args ports) answer

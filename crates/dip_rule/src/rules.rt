@@ -1,6 +1,7 @@
 ghost use Rattle.std.specs.Prelude.{◌≡◌, List, map};
 ghost use Rattle.std.specs.Option.{option_map};
-ghost use Rattle.dip_rule.specs.Stated.{Answers, StatedRule, down_by, entry_place, rule_of, stated_rule, up_by};
+ghost use Rattle.dip_rule.specs.Stated.{Answers, StatedRule, down_by, entry_place, rule_of};
+ghost use Rattle.dip_rule.specs.Stated.{stated_rule, up_by};
 ghost use Rattle.dip_rule.specs.Stated as spec;
 
 use crate::{Rule, RuleFault};
@@ -20,7 +21,8 @@ pub struct RuleEntry {
 /// Entries in order.
 pub type RuleEntries = Items<RuleEntry>;
 
-/// The rules of kinds: the first entry of a kind decides. Contracts speak of what they state, `Stating::stated`.
+/// The rules of kinds: the first entry of a kind decides. Contracts speak of what they state,
+/// `Stating::stated`.
 #[derive(Drop)]
 pub struct Rules {
     pub entries: RuleEntries,

@@ -9,7 +9,7 @@ use Rattle.std.proofs.lemmas.Bool.{cases_lt, leb-true, leb-false}
 use Rattle.std.proofs.lemmas.Bool.Decides.{nat_tests}
 use Rattle.dip_sets.specs.declared.ids.IdRange.{IdRange}
 use Rattle.dip_sets.specs.Ids.{DisjointIds}
-use Rattle.dip_sets.specs.Assignments.{IsAligned, power_from, rounded, goes_first, sum_before, range_at, ranges_from, IsRounded, HasRoom}
+use Rattle.dip_sets.specs.Assignments.{BeginsAtMultiple, power_from, rounded, goes_first, sum_before, range_at, ranges_from, IsRounded, HasRoom}
 
 pub if_ok_same : {T E : Type 0} (r : Result T E) (y : T) (P : T → Type 0) → IfOk r (λ x. x ≡ y) → P y → IfOk r P
 if_ok_same (Ok x) y P e p = rw e p
@@ -193,14 +193,14 @@ sum_multiple a place at (x ∷ xs) h =
 no_rest : (own n : ℕ) → Multiple own n → n % own ≡ 0
 no_rest own n (k, e) = ap (λ x. x % own) e ∙ mul-mod_left k own
 
-aligned_power : (a place : ℕ) (all : List ℕ) → ArePowers all → IsAligned (range_at (2 ^ a) place all)
+aligned_power : (a place : ℕ) (all : List ℕ) → ArePowers all → BeginsAtMultiple (range_at (2 ^ a) place all)
 aligned_power a place all g =
     let size : sum_before (2 ^ a) place 0 all + 2 ^ a - sum_before (2 ^ a) place 0 all ≡ 2 ^ a = omega arith in
     rw size (no_rest (2 ^ a) (sum_before (2 ^ a) place 0 all) (sum_multiple a place 0 all g))
 
-pub ranges_aligned : (place : ℕ) (rs all : List ℕ) → ArePowers rs → ArePowers all → All IsAligned (ranges_from place all rs)
+pub ranges_aligned : (place : ℕ) (rs all : List ℕ) → ArePowers rs → ArePowers all → All BeginsAtMultiple (ranges_from place all rs)
 ranges_aligned place [] all h g = λ k d l. absurd (omega arith)
 ranges_aligned place (r ∷ rs) all h g =
-    All-cons IsAligned (range_at r place all) (ranges_from (place + 1) all rs)
-    (subst (λ x. IsAligned (range_at x place all)) (sym h.0.1) (aligned_power h.0.0 place all g))
+    All-cons BeginsAtMultiple (range_at r place all) (ranges_from (place + 1) all rs)
+    (subst (λ x. BeginsAtMultiple (range_at x place all)) (sym h.0.1) (aligned_power h.0.0 place all g))
     (ranges_aligned (place + 1) rs all h.1 g)

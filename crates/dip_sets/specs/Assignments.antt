@@ -44,5 +44,5 @@ abbrev pub HasRoom : ℕ → IdRange → Type 0
 HasRoom count range = count ≤ range.end - range.start
 
 -- a range begins at a multiple of its length
-abbrev pub IsAligned : IdRange → Type 0
-IsAligned range = range.start % (range.end - range.start) ≡ 0
+abbrev pub BeginsAtMultiple : IdRange → Type 0
+BeginsAtMultiple range = range.start % (range.end - range.start) ≡ 0

@@ -2,7 +2,7 @@ ghost use Rattle.std.specs.Prelude.{◌≡◌, ◌≤◌, ◌*◌, length, map, 
 ghost use Rattle.std.specs.List.{AllZip};
 ghost use Rattle.dip_sets.specs.Ids.{DisjointIds};
 ghost use Rattle.dip_sets.specs.Assignments.{rounded, goes_first, sum_before, ranges_from, assigned};
-ghost use Rattle.dip_sets.specs.Assignments.{IsAligned, IsRounded, HasRoom};
+ghost use Rattle.dip_sets.specs.Assignments.{BeginsAtMultiple, IsRounded, HasRoom};
 
 use crate::ids::{IdRange, IdRanges};
 use dip_lists::{Items, Memory};
@@ -79,7 +79,7 @@ pub fn assign_ranges(alloc: Global, counts: &[u32]) -> Result<IdRanges, Memory>
     ensures rounded { IfOk result (AllZip IsRounded counts.now) }
     ensures room { IfOk result (AllZip HasRoom counts.now) }
     ensures disjoint { IfOk result (AllPairs DisjointIds) }
-    ensures aligned { IfOk result (All IsAligned) }
+    ensures aligned { IfOk result (All BeginsAtMultiple) }
 {
     let rounded = rounded_counts(alloc, counts)?;
     ranges_of(alloc, rounded.as_slice())

@@ -90,8 +90,8 @@ pub fn known_number(count: &Counted) -> i64
     count.number.unwrap_or(0)
 }
 
-// No sum of a design comes near 2^63, since each node decides one bind at most; one that did would be taken as
-// want of memory.
+// No sum of a design comes near 2^63, since each node decides one bind at most; one that did would be taken
+// as want of memory.
 fn plus(a: i64, b: i64) -> Result<i64, Memory>
     ensures { IfOk result (λ sum. sum ≡ a +ℤ b) }
 {

@@ -173,9 +173,9 @@ fn few_edges(counts: &[Counted]) -> Result<(), StarFault>
 
 /// The edges of a design, in the order of its binds, each bind as often as its number says.
 ///
-/// `StarFault::StarsWait` names the least bind that isn't known after as many rounds as there are binds. Else
-/// `StarFault::Arity` names the least node that decides a negative number or whose binds don't sum up, and else
-/// `StarFault::TooManyEdges` says how many edges there are where these are more than 1,024.
+/// `StarFault::StarsWait` names the least bind that isn't known after as many rounds as there are binds.
+/// Else `StarFault::Arity` names the least node that decides a negative number or whose binds don't sum up,
+/// and else `StarFault::TooManyEdges` says how many edges there are where these are more than 1,024.
 #[tactic(auto, using(crate::proofs::Few::few_edges))]
 pub fn resolve(alloc: Global, design: &Design, rules: &Rules) -> Result<Edges, StarFault>
     requires nodes { length design.now.nodes < 2 ^ 32 }

@@ -2,13 +2,13 @@
 use Rattle.std.specs.Prelude.{ℕ, ◌+◌, List, [], ◌∷◌, ◌++◌, length, take, codes, Bool, ◌&&◌, ◌||◌, not, cond}
 use Rattle.std.specs.Prelude.{nat_le, Option, Some, None, is_none, unwrap_or, if◌then◌else◌}
 use Rattle.std.specs.Option.{option_and_then, option_map}
-use Rattle.std.specs.Str.{is_utf8}
+use Rattle.std.specs.List.{list_any}
+use Rattle.std.specs.Str.{bytes_eq, is_utf8}
 use Rattle.toml.specs.Parse.{parse_document}
 use Rattle.toml.specs.Data.{Data, Items, no_items, item, Members}
 use Rattle.dip_lists.specs.First.{Check, check}
 use Rattle.dip_graph.specs.declared.design.Design.{Design}
 use Rattle.toml_shape.specs.Shapes.{tables_under}
-use Rattle.dip_names.specs.Numbers.{is_named}
 use Rattle.dip_graph.specs.declared.design.ModuleEntry.{ModuleEntry}
 use Rattle.dip_graph.specs.declared.design.NodeEntry.{NodeEntry}
 use Rattle.dip_graph.specs.declared.design.BindEntry.{BindEntry}
@@ -137,7 +137,8 @@ module_is_unnamed top names place d = is_none (module_at top names place d)
 
 -- a node with an earlier node's name, or in a module that isn't there
 abbrev pub node_is_unnamed : List (List ℕ) → List (List ℕ) → ℕ → Data → Bool
-node_is_unnamed modules names place d = is_named (take place names) (name_at d) || is_none (module_of modules d)
+node_is_unnamed modules names place d =
+    list_any (bytes_eq (name_at d)) (take place names) || is_none (module_of modules d)
 
 -- a bind that names a node that isn't there
 abbrev pub bind_is_unnamed : List (List ℕ) → ℕ → Data → Bool

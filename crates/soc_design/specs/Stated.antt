@@ -1,6 +1,7 @@
 -- What the tables of a design file state, where their numbers are within the limits and their names are known.
 use Rattle.std.specs.Prelude.{ℕ, ℤ, ◌+◌, ◌-◌, ◌^◌, List, [], ◌∷◌, length, take, codes, ◌&&◌, ◌==◌, cond}
-use Rattle.std.specs.Prelude.{nat_le, bit_and, Option, Some, None, unwrap_or}
+use Rattle.std.specs.Prelude.{nat_le, bit_and, Option, Some, None, unwrap_or, position}
+use Rattle.std.specs.List.{list_any}
 use Rattle.std.specs.Option.{option_and_then, option_map}
 use Rattle.std.specs.Str.{bytes_eq}
 use Rattle.toml.specs.Data.{Data, array, table, Items, no_items, item, Members, get_member}
@@ -19,7 +20,6 @@ use Rattle.dip_graph.specs.declared.design.Star.TheVariants.{One, FromStar, ToSt
 use Rattle.tl_params.specs.Arguments.{is_width}
 use Rattle.toml_shape.specs.Shapes.{integer_of, text_of, pair_of, number_within}
 use Rattle.toml_shape.specs.Shapes.{table_under, text_under, name_under, number_under}
-use Rattle.dip_names.specs.Numbers.{is_named, number_of}
 use Rattle.soc_design.specs.declared.limits.Heading.{Heading}
 use Rattle.soc_design.specs.declared.nodes.LimitedNode.{LimitedNode}
 
@@ -72,8 +72,14 @@ abbrev pub operations_in : Members → Option Ops
 operations_in ms =
     option_and_then (λ get. option_and_then (λ put_full. option_and_then (λ put_partial.
     option_and_then (λ arithmetic. option_and_then (λ logical. option_map (λ intent.
-    record { get = get; put_full = put_full; put_partial = put_partial;
-    arithmetic = arithmetic; logical = logical; intent = intent })
+    record {
+      get = get;
+      put_full = put_full;
+      put_partial = put_partial;
+      arithmetic = arithmetic;
+      logical = logical;
+      intent = intent;
+    })
     (stated_sizes most_transfer (get_member (codes "intent") ms)))
     (stated_sizes most_atomic (get_member (codes "logical") ms)))
     (stated_sizes most_atomic (get_member (codes "arithmetic") ms)))
@@ -217,7 +223,7 @@ names_at (item d ds) = name_at d ∷ names_at ds
 -- the number of a module, the top one where none is named
 abbrev pub module_named : List (List ℕ) → Option (List ℕ) → Option ℕ
 module_named modules None = Some 0
-module_named modules (Some name) = number_of modules name
+module_named modules (Some name) = position (bytes_eq name) modules
 
 -- the number of the module that a key names
 abbrev pub module_under : List ℕ → List (List ℕ) → Members → Option ℕ
@@ -225,7 +231,7 @@ module_under key modules ms = module_named modules (text_under key ms)
 
 -- a name that isn't one of these
 abbrev pub new_name : List (List ℕ) → List ℕ → Option (List ℕ)
-new_name names name = cond (is_named names name) None (Some name)
+new_name names name = cond (list_any (bytes_eq name) names) None (Some name)
 
 -- a module after these: its name is a new one, and its parent one of these
 abbrev pub module_after : List (List ℕ) → Data → Option ModuleEntry
@@ -261,7 +267,7 @@ placed_node modules d = option_and_then (λ node. option_map (node_in node) (mod
 
 -- the number of the node that a key names
 abbrev pub node_under : List ℕ → List (List ℕ) → Members → Option ℕ
-node_under key names ms = option_and_then (number_of names) (name_under key ms)
+node_under key names ms = option_and_then (λ name. position (bytes_eq name) names) (name_under key ms)
 
 -- how many edges the sign of a bind makes
 abbrev pub star_named : List ℕ → Option Star

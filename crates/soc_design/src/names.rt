@@ -1,6 +1,7 @@
 ghost use Rattle.std.specs.Prelude.{◌≡◌, ◌≤◌, ◌<◌, ◌^◌, ◌+◌, [], ◌∷◌, length, false, All, IfOk, IfErr, IfSome, None, Some};
 ghost use Rattle.toml.specs.View.{table_view, view, items_view};
-ghost use Rattle.dip_names.specs.Numbers.{is_named};
+ghost use Rattle.std.specs.List.{list_any};
+ghost use Rattle.std.specs.Str.{bytes_eq};
 ghost use Rattle.dip_lists.specs.First.{first, first_failing};
 ghost use Rattle.soc_design.specs.Stated as spec;
 ghost use Rattle.soc_design.specs.Standing.{IsTree, IsWithinLimits};
@@ -55,7 +56,8 @@ fn module_after(
     requires some { 1 ≤ length earlier.now }
     requires few { length earlier.now ≤ 256 }
     ensures value { IfOk result (λ entry. entry ≡ spec.module_after earlier.now (view value.now)) }
-    ensures new { IfOk result (λ found. IfSome found (λ entry. is_named earlier.now entry.name ≡ false)) }
+    ensures new { IfOk result (λ found. IfSome found (λ entry. list_any (bytes_eq entry.name)
+        earlier.now ≡ false)) }
     ensures earlier { IfOk result (λ found. IfSome found (λ entry. entry.parent < length earlier.now)) }
     ensures named { IfOk result (λ found. IfSome found (λ entry. entry.name ≡ spec.name_at
         (view value.now))) }

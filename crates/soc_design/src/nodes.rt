@@ -135,7 +135,8 @@ fn ports_in(alloc: Global, items: &[Value]) -> Result<Option<AddressLists>, Memo
 
 // The 1 to 64 ports that stand under a key.
 fn ports_under(alloc: Global, table: &Table, key: &str) -> Result<Option<AddressLists>, Memory>
-    ensures value { IfOk result (λ ports. ports ≡ spec.stated_ports (get_member key.now (table_view table.now))) }
+    ensures value { IfOk result (λ ports. ports ≡ spec.stated_ports (get_member key.now
+        (table_view table.now))) }
     ensures within { IfOk result (λ found. IfSome found (λ ports. IsUpTo64 (length ports))) }
 {
     let Some(Value::Array(items)) = under(table, key) else {

@@ -25,5 +25,5 @@ module _ (nodes : List NodeEntry) (number : ℕ) (name : List ℕ) (ids : ℕ) w
       → text ++ node_lines nodes number name ids (drop n edges) (drop n ups) ≡ made → text ≡ made
   all_made text made edges ups n h e =
       let nothing : node_lines nodes number name ids (drop n edges) (drop n ups) ≡ [] =
-          at_end edges ups n (shorter n (length edges) (length ups) h) in
+      at_end edges ups n (shorter n (length edges) (length ups) h) in
       grind (arith, append-nil, nothing, e)

@@ -10,13 +10,7 @@ use tl_params::UpPort;
 
 // Adds the line of an out port of a source with so many ids, whose bus has so many bytes.
 #[tactic(auto, unfolding(crate::specs::MapText::port_line))]
-fn add_port_line(
-    text: &mut Text,
-    name: &[u8],
-    port: u32,
-    ids: u32,
-    beat: u32,
-) -> Result<(), Memory>
+fn add_port_line(text: &mut Text, name: &[u8], port: u32, ids: u32, beat: u32) -> Result<(), Memory>
     ensures { OnOk result (text.new ≡ text.old ++ port_line name.now port ids beat) }
 {
     text.add(b"port ")?;
@@ -57,7 +51,8 @@ fn add_lines_if_from(
     edge: &Edge,
     up: &UpPort,
 ) -> Result<(), Memory>
-    ensures { OnOk result (text.new ≡ text.old ++ lines_if_from nodes.now number name.now ids edge.now up.now) }
+    ensures { OnOk result (text.new ≡ text.old ++ lines_if_from nodes.now number name.now ids edge.now
+        up.now) }
 {
     if edge.from as usize == number {
         add_port_lines(text, nodes, name, ids, edge, up)
@@ -76,7 +71,8 @@ fn add_node_lines(
     edges: &[Edge],
     ups: &[UpPort],
 ) -> Result<(), Memory>
-    ensures { OnOk result (text.new ≡ text.old ++ node_lines nodes.now number name.now ids edges.now ups.now) }
+    ensures { OnOk result (text.new ≡ text.old ++ node_lines nodes.now number name.now ids edges.now
+        ups.now) }
 {
     for at in 0..edges.len().min(ups.len()) {
         add_lines_if_from(text, nodes, number, name, ids, &edges[at], &ups[at])?;
@@ -93,8 +89,8 @@ fn add_kind_lines(
     edges: &[Edge],
     ups: &[UpPort],
 ) -> Result<(), Memory>
-    ensures { OnOk result (text.new ≡ text.old ++ kind_lines nodes.now number node.now.name node.now.kind edges.now
-        ups.now) }
+    ensures { OnOk result (text.new ≡ text.old ++ kind_lines nodes.now number node.now.name node.now.kind
+        edges.now ups.now) }
 {
     match &node.kind {
         NodeKind::Source { ids, .. } => {

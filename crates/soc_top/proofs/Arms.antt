@@ -1,12 +1,12 @@
 -- A run on the bytes of a design, as the answer of the whole.
-use Rattle.std.proofs.Common.{ℕ, ◌≡◌, ◌⊎◌, inl, inr, List, Option, Some, None, refl, sym, ◌∙◌, ap, take, drop, length, []}
+use Rattle.std.proofs.Common.{ℕ, ◌≡◌, ◌⊎◌, inl, inr, List, Option, Some, None, refl, sym, subst, ◌∙◌, ap, take, drop, length, []}
 use Rattle.dip_lists.specs.First.{Failure, failure_of}
 use Rattle.dip_io.specs.Outside.{Told, AreFirst, LoadsRose, Writes}
 use Rattle.soc_report.specs.Lines.{line_of}
 use Rattle.soc_report.specs.declared.status.Status.{Status}
 use Rattle.soc_report.specs.declared.status.Status.TheVariants.{Done, Refused, Usage, ReadFailed, WriteFailed, Memory}
 use Rattle.soc_top.specs.Words.{design_named}
-use Rattle.soc_top.specs.Designs.{first_failure, answer_of, text_of}
+use Rattle.soc_top.specs.Designs.{first_failure, answer_of, due_text, map_of, IsMapOf}
 use Rattle.soc_top.specs.Printing.{Printed, RunsOn}
 use Rattle.soc_top.specs.Answers.{World, IsLoaded, design, read_failed, Answered, Completed, most_loaded}
 use Rattle.dip_rule.specs.Stated.{StatedRule}
@@ -14,6 +14,11 @@ use Rattle.dip_rule.specs.Stated.{StatedRule}
 -- what was appended to nothing
 pub loaded : (max : ℕ) (told : Told) (before after slice : List ℕ) → before ≡ [] → slice ≡ after → AreFirst max told (drop (length before) after) → AreFirst max told slice
 loaded max told before after slice b s h = rw s (rw b at h)
+
+-- the same by rules that state the same
+pub answered_by : {a b : List StatedRule} {words : List (List ℕ)} {before after : World} {result : Status} → a ≡ b
+    → Answered a words before after result → Answered b words before after result
+answered_by {a} {b} {words} {before} {after} {result} same h = subst (λ rules. Answered rules words before after result) same h
 
 module _ (rules : List StatedRule) where
   pub on_memory : (words : List (List ℕ)) (before after : World) (name : List ℕ) → design_named words ≡ Some name → after.out.written ≡ before.out.written → Answered rules words before after Memory
@@ -23,9 +28,10 @@ module _ (rules : List StatedRule) where
     write_failed = λ e. (cc);
     refused = λ check subject e. (cc);
     done = λ e. (cc);
+    mapped = λ h. (cc);
     memory = λ e. (name, named);
     nothing = λ e. kept;
-    line = λ a b m. absurd (m refl);
+    line = λ a b k. absurd (k refl);
     part = λ e. (cc);
   }
 
@@ -34,31 +40,34 @@ module _ (rules : List StatedRule) where
 
   on_printed : (words : List (List ℕ)) (before after : World) (result : Status) (name bytes : List ℕ) (found : Option Failure)
       → found ≡ first_failure rules bytes → IsLoaded words before.files name bytes
-      → Printed (text_of rules bytes found) (answer_of found) result before.out after.out
+      → Printed (due_text rules bytes found) (answer_of found) result before.out after.out
+      → (result ≡ Done → IsMapOf rules bytes (map_of rules bytes))
       → (result ≡ answer_of found) ⊎ (result ≡ WriteFailed) → Answered rules words before after result
-  on_printed words before after result name bytes None f l p (inl r) = record {
+  on_printed words before after result name bytes None f l p m (inl r) = record {
     usage = λ h. (cc);
     read_failed = λ h. (cc);
     write_failed = λ h. (cc);
     refused = λ check subject h. (cc);
     done = λ h. (name, bytes, l, sym f, p.whole (λ w. (cc)));
+    mapped = λ h. (name, bytes, l, m h);
     memory = λ h. (cc);
     nothing = λ h. (cc);
-    line = λ a b m. absurd (a r);
+    line = λ a b k. absurd (a r);
     part = λ h. (cc);
   }
-  on_printed words before after result name bytes (Some failure) f l p (inl r) = record {
+  on_printed words before after result name bytes (Some failure) f l p m (inl r) = record {
     usage = λ h. (cc);
     read_failed = λ h. (cc);
     write_failed = λ h. (cc);
     refused = λ check subject h. (name, bytes, l, sym f ∙ ap Some (same_failure failure check subject (sym r ∙ h)));
     done = λ h. (cc);
+    mapped = λ h. (cc);
     memory = λ h. (cc);
     nothing = λ h. (cc);
-    line = λ a b m. rw r (p.whole b);
+    line = λ a b k. rw r (p.whole b);
     part = λ h. (cc);
   }
-  on_printed words before after result name bytes found f l p (inr r) =
+  on_printed words before after result name bytes found f l p m (inr r) =
       let part = p.part r in
       record {
         usage = λ h. (cc);
@@ -66,16 +75,18 @@ module _ (rules : List StatedRule) where
         write_failed = λ h. part.0;
         refused = λ check subject h. (cc);
         done = λ h. (cc);
+        mapped = λ h. (cc);
         memory = λ h. (cc);
         nothing = λ h. (cc);
-        line = λ a b m. absurd (b r);
-        part = λ h. (text_of rules bytes found, design name bytes l (ap (text_of rules bytes) f), part.1);
+        line = λ a b k. absurd (b r);
+        part = λ h. (due_text rules bytes found, design name bytes l (ap (due_text rules bytes) f), part.1);
       }
 
   pub on_bytes : (words : List (List ℕ)) (before after : World) (result : Status) (name bytes : List ℕ)
-      → IsLoaded words before.files name bytes → RunsOn rules bytes result before.out after.out → Answered rules words before after result
-  on_bytes words before after result name bytes l (inl m) = rw m.0 (on_memory words before after name l.named m.1)
-  on_bytes words before after result name bytes l (inr p) = on_printed words before after result name bytes (first_failure rules bytes) refl l p p.either
+      → IsLoaded words before.files name bytes → RunsOn rules bytes result before.out after.out
+      → (result ≡ Done → IsMapOf rules bytes (map_of rules bytes)) → Answered rules words before after result
+  on_bytes words before after result name bytes l (inl m) mapped = rw m.0 (on_memory words before after name l.named m.1)
+  on_bytes words before after result name bytes l (inr p) mapped = on_printed words before after result name bytes (first_failure rules bytes) refl l p mapped p.either
 
   -- a load that failed
   on_line : (words : List (List ℕ)) (before after : World) (result : Status) (name : List ℕ) → design_named words ≡ Some name → LoadsRose name before.files after.files
@@ -86,9 +97,10 @@ module _ (rules : List StatedRule) where
     write_failed = λ h. (cc);
     refused = λ check subject h. (cc);
     done = λ h. (cc);
+    mapped = λ h. (cc);
     memory = λ h. (cc);
     nothing = λ h. (cc);
-    line = λ a b m. rw r (p.whole b);
+    line = λ a b k. rw r (p.whole b);
     part = λ h. (cc);
   }
   on_line words before after result name named rose p (inr r) =
@@ -99,10 +111,11 @@ module _ (rules : List StatedRule) where
         write_failed = λ h. part.0;
         refused = λ check subject h. (cc);
         done = λ h. (cc);
+        mapped = λ h. (cc);
         memory = λ h. (cc);
         nothing = λ h. (cc);
-        line = λ a b m. absurd (b r);
-        part = λ h. (line_of ReadFailed, read_failed name named refl, part.1);
+        line = λ a b k. absurd (b r);
+        part = λ h. (line_of ReadFailed, read_failed name named rose refl, part.1);
       }
 
   pub on_read_failed : (words : List (List ℕ)) (before after : World) (result : Status) (name : List ℕ) → design_named words ≡ Some name → LoadsRose name before.files after.files
@@ -132,7 +145,7 @@ module _ (rules : List StatedRule) where
   of_design : (words : List (List ℕ)) (before after : World) (result : Status) → Answered rules words before after result
       → (name all : List ℕ) → design_named words ≡ Some name → before.files.content name ≡ Some (Some all) → ¬ (LoadsRose name before.files after.files)
       → (result ≡ Memory) ⊎ (result ≡ WriteFailed)
-      ⊎ ((result ≡ answer_of (first_failure rules (take most_loaded all))) × Writes (text_of rules (take most_loaded all) (first_failure rules (take most_loaded all))) before.out after.out)
+      ⊎ ((result ≡ answer_of (first_failure rules (take most_loaded all))) × Writes (due_text rules (take most_loaded all) (first_failure rules (take most_loaded all))) before.out after.out)
   of_design words before after Done a name all e t no_load =
       let d = a.done refl in
       let same : d.1 ≡ take most_loaded all = whole words before name d.0 d.1 all e t d.2 in

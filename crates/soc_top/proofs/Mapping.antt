@@ -1,6 +1,8 @@
 -- The checks of a file's bytes before those of the design that it states.
-use Rattle.std.proofs.Common.{◌≡◌, ◌∙◌, ap, sym, subst, None, List, ℕ, Option, Some, Result, Ok, Err}
-use Rattle.std.specs.Prelude.{IfOk, IfErr}
+use Rattle.std.proofs.Common.{◌≡◌, ◌∙◌, refl, ap, sym, subst, None, List, ℕ, Option, Some, Result, Ok, Err}
+use Rattle.std.specs.Prelude.{IfOk, IfErr, All}
+use Rattle.dip_negotiate.specs.Negotiation.{IsOnlySolution}
+use Rattle.tl_params.specs.Apart.{HasDisjointSets}
 use Rattle.dip_lists.specs.First.{first_failing}
 use Rattle.dip_graph.specs.declared.design.Design.{Design}
 use Rattle.dip_graph.specs.declared.fault.Fault.{Fault}
@@ -10,7 +12,7 @@ use Rattle.dip_rule.specs.Stated.{StatedRule}
 use Rattle.dip_checks.specs.Checks.{design_checks, accepted_of}
 use Rattle.soc_design.specs.Reading.{file_checks, stated_design}
 use Rattle.soc_report.specs.MapText.{map_text}
-use Rattle.soc_top.specs.Designs.{checks_of, first_failure, map_of, map_of_design}
+use Rattle.soc_top.specs.Designs.{checks_of, first_failure, map_of, map_of_design, IsMapOf}
 
 module _ (rules : List StatedRule) (bytes : List ℕ) where
   pub file_fault : (fault : Fault) → IsFaultOf (first_failing (file_checks bytes)) fault → IsFaultOf (first_failure rules bytes) fault
@@ -46,3 +48,9 @@ module _ (rules : List StatedRule) (bytes : List ℕ) where
     pub faults_all : (r : Result (List ℕ) Fault) → IfErr r (IsFaultOf (first_failing (design_checks rules design))) → IfErr r (IsFaultOf (first_failure rules bytes))
     faults_all (Ok text) h = tt
     faults_all (Err fault) h = design_fault fault h
+
+    pub maps_only : (r : Result (List ℕ) Fault) → IfOk r (λ text. text ≡ map_text design (accepted_of rules design))
+        → IfOk r (λ _. IsOnlySolution rules design (accepted_of rules design).edges (accepted_of rules design).solution)
+        → IfOk r (λ _. All HasDisjointSets (accepted_of rules design).solution.up) → IfOk r (λ text. IsMapOf rules bytes text)
+    maps_only (Ok text) m o a = record { design = design; stated = stated; accepted = accepted_of rules design; edges = refl; only = o; apart = a; text = m }
+    maps_only (Err fault) m o a = tt

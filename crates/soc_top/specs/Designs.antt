@@ -1,9 +1,12 @@
 -- What the bytes of a design file call for.
-use Rattle.std.specs.Prelude.{ℕ, List, [], ◌++◌, Option, Some, None}
+use Rattle.std.specs.Prelude.{ℕ, ◌≡◌, All, List, [], ◌++◌, Option, Some, None}
 use Rattle.dip_lists.specs.First.{Check, Failure, first_failing}
 use Rattle.dip_graph.specs.declared.design.Design.{Design}
 use Rattle.dip_rule.specs.Stated.{StatedRule}
-use Rattle.dip_checks.specs.Checks.{design_checks, accepted_of}
+use Rattle.dip_negotiate.specs.Negotiation.{IsOnlySolution}
+use Rattle.tl_params.specs.Apart.{HasDisjointSets}
+use Rattle.dip_checks.specs.declared.accepted.Accepted.{Accepted}
+use Rattle.dip_checks.specs.Checks.{design_checks, accepted_of, edges_in}
 use Rattle.soc_design.specs.Reading.{file_checks, stated_design}
 use Rattle.soc_report.specs.declared.status.Status.{Status}
 use Rattle.soc_report.specs.declared.status.Status.TheVariants.{Done, Refused}
@@ -28,14 +31,26 @@ abbrev pub map_of_design : List StatedRule → Option Design → List ℕ
 map_of_design rules None = []
 map_of_design rules (Some design) = map_text design (accepted_of rules design)
 
+-- the map of a file
 unfoldable pub map_of : List StatedRule → List ℕ → List ℕ
 map_of rules bytes = map_of_design rules (stated_design bytes)
 
--- the answer that a file calls for, and what it prints
+-- the answer that a file calls for
 abbrev pub answer_of : Option Failure → Status
 answer_of None = Done
 answer_of (Some failure) = Refused failure.number failure.subject
 
-abbrev pub text_of : List StatedRule → List ℕ → Option Failure → List ℕ
-text_of rules bytes None = map_of rules bytes
-text_of rules bytes (Some failure) = line_of (answer_of (Some failure))
+-- what is to be printed: the map, or the line of the first failure
+abbrev pub due_text : List StatedRule → List ℕ → Option Failure → List ℕ
+due_text rules bytes None = map_of rules bytes
+due_text rules bytes (Some failure) = line_of (answer_of (Some failure))
+
+-- The map of what a file states: of the only solution of its design, in which no address is in two sets of an edge.
+pub record IsMapOf (rules : List StatedRule) (bytes printed : List ℕ) : Type 0 where
+  pub design : Design
+  pub stated : stated_design bytes ≡ Some design
+  pub accepted : Accepted
+  pub edges : accepted.edges ≡ edges_in rules design
+  pub only : IsOnlySolution rules design accepted.edges accepted.solution
+  pub apart : All HasDisjointSets accepted.solution.up
+  pub text : printed ≡ map_text design accepted

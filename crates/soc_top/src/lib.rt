@@ -2,7 +2,9 @@
 #![tactic(auto)]
 
 mod laws;
+mod standard;
 mod top;
 
 pub use laws::first_of_all_law;
+pub use standard::soc_by_standard_rules;
 pub use top::soc;

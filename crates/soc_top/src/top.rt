@@ -1,27 +1,31 @@
-ghost use Rattle.std.specs.Prelude.{◌≡◌, ◌≢◌, ◌≤◌, None, length, map, IfOk, IfErr, All};
+ghost use Rattle.std.specs.Prelude.{◌≡◌, ◌≢◌, ◌≤◌, None, length, IfOk, IfErr, All};
 ghost use Rattle.std.specs.Option.{option_map};
 ghost use Rattle.dip_lists.specs.First.{first_failing};
 ghost use Rattle.dip_io.specs.Outside.{SameContent};
-ghost use Rattle.dip_negotiate.specs.Negotiation.{HasNodes};
+ghost use Rattle.tl_params.specs.Apart.{HasDisjointSets};
+ghost use Rattle.dip_graph.specs.Edges.{HasNodes};
+ghost use Rattle.dip_negotiate.specs.Negotiation.{IsOnlySolution};
 ghost use Rattle.dip_checks.specs.Checks.{accepted_of, design_checks};
 ghost use Rattle.soc_report.specs.MapText.{map_text};
 ghost use Rattle.dip_graph.specs.Faults.{IsFaultOf};
 ghost use Rattle.soc_report.specs.Lines.{line_of};
+ghost use Rattle.soc_report.specs.declared.status.Status.TheVariants.{Done};
 ghost use Rattle.soc_top.specs.Words.{design_named, words_of};
-ghost use Rattle.soc_top.specs.Designs.{first_failure, map_of};
+ghost use Rattle.soc_top.specs.Designs.{first_failure, map_of, IsMapOf};
 ghost use Rattle.soc_top.specs.Printing.{Printed, RunsOn};
 ghost use Rattle.soc_top.specs.Answers.{Answered, Completed, world};
 
 use dip_checks::check_design;
 use dip_graph::{Design, Fault};
 use dip_io::{Failed, Files, LoadFault, Out, put_all};
+use dip_lists::Bytes;
 use dip_rule::{Rules, Stating};
-use soc_design::read_design;
-use soc_report::{Bytes, Status, fault_text, map_text};
+use soc_design::{MOST_BYTES, read_design};
+use soc_report::{Status, fault_text, map_text};
 use std::alloc::Global;
 
 /// The most bytes of a design file that are loaded: one more than a design may have.
-const MOST_LOADED: usize = 1_048_577;
+const MOST_LOADED: usize = MOST_BYTES + 1;
 
 // Writes a text, and answers as wanted.
 fn print_text<O: Out>(text: &[u8], wanted: Status, out: &mut O) -> Status
@@ -45,7 +49,7 @@ fn finish<O: Out>(status: Status, out: &mut O) -> Status
 }
 
 // The map of a design, or the first check that it fails.
-fn map_of(alloc: Global, design: &Design, rules: &Rules) -> Result<Bytes, Fault>
+fn map_of_design(alloc: Global, design: &Design, rules: &Rules) -> Result<Bytes, Fault>
     requires nodes { length design.now.nodes ≤ 256 }
     requires binds { length design.now.binds ≤ 1024 }
     requires named { All (HasNodes design.now.nodes) design.now.binds }
@@ -55,6 +59,11 @@ fn map_of(alloc: Global, design: &Design, rules: &Rules) -> Result<Bytes, Fault>
         (⟦<Rules as Stating>⟧.stated rules.now) design.now)) }
     ensures err { IfErr result (IsFaultOf (first_failing (design_checks (⟦<Rules as Stating>⟧.stated
         rules.now) design.now))) }
+    ensures only { IfOk result (λ _. IsOnlySolution (⟦<Rules as Stating>⟧.stated rules.now) design.now
+        (accepted_of (⟦<Rules as Stating>⟧.stated rules.now) design.now).edges
+        (accepted_of (⟦<Rules as Stating>⟧.stated rules.now) design.now).solution) }
+    ensures apart { IfOk result (λ _. All HasDisjointSets (accepted_of (⟦<Rules as Stating>⟧.stated
+        rules.now) design.now).solution.up) }
 {
     let accepted = check_design(alloc, design, rules)?;
     let text = map_text(alloc, design, &accepted)?;
@@ -62,23 +71,27 @@ fn map_of(alloc: Global, design: &Design, rules: &Rules) -> Result<Bytes, Fault>
 }
 
 // The map of a design file, or the first check that it fails.
-fn map_design(alloc: Global, bytes: &[u8], rules: &Rules) -> Result<Bytes, Fault>
+fn map_of(alloc: Global, bytes: &[u8], rules: &Rules) -> Result<Bytes, Fault>
     ensures passes { IfOk result (λ _. first_failure (⟦<Rules as Stating>⟧.stated rules.now) bytes.now ≡
         None) }
     ensures map { IfOk result (λ text. text ≡ map_of (⟦<Rules as Stating>⟧.stated rules.now) bytes.now) }
     ensures err { IfErr result (IsFaultOf (first_failure (⟦<Rules as Stating>⟧.stated rules.now)
         bytes.now)) }
+    ensures mapped { IfOk result (λ text. IsMapOf (⟦<Rules as Stating>⟧.stated rules.now) bytes.now
+        text) }
 {
     let design = read_design(alloc, bytes)?;
-    map_of(alloc, &design, rules)
+    map_of_design(alloc, &design, rules)
 }
 
 // Runs on the bytes of a design file.
 fn run_on<O: Out>(alloc: Global, bytes: &[u8], rules: &Rules, out: &mut O) -> Status
-    ensures { RunsOn (⟦<Rules as Stating>⟧.stated rules.now) bytes.now result (O.seen out.old) (O.seen
-        out.new) }
+    ensures runs { RunsOn (⟦<Rules as Stating>⟧.stated rules.now) bytes.now result (O.seen out.old)
+        (O.seen out.new) }
+    ensures mapped { result ≡ Status.Done → IsMapOf (⟦<Rules as Stating>⟧.stated rules.now) bytes.now
+        (map_of (⟦<Rules as Stating>⟧.stated rules.now) bytes.now) }
 {
-    match map_design(alloc, bytes, rules) {
+    match map_of(alloc, bytes, rules) {
         Ok(text) => print_text(text.as_slice(), Status::Done, out),
         Err(Fault::Check { number, subject }) => finish(
             Status::Refused {
@@ -92,7 +105,7 @@ fn run_on<O: Out>(alloc: Global, bytes: &[u8], rules: &Rules, out: &mut O) -> St
 }
 
 // The design file that the words name.
-fn design_of(words: &[String]) -> Option<&str>
+fn design_named(words: &[String]) -> Option<&str>
     ensures { option_map (λ name. name.now) result ≡ design_named (words_of words.now) }
 {
     let [command, name] = words else {
@@ -105,7 +118,8 @@ fn design_of(words: &[String]) -> Option<&str>
     }
 }
 
-fn run<F: Files, O: Out>(
+// What `soc` does; its clause `completed` follows from the clauses that stand here.
+fn answer<F: Files, O: Out>(
     alloc: Global,
     words: &[String],
     files: &mut F,
@@ -117,7 +131,7 @@ fn run<F: Files, O: Out>(
         (F.seen files.old) (O.seen out.old))
         (world (F.seen files.new) (O.seen out.new)) result }
 {
-    let Some(name) = design_of(words) else {
+    let Some(name) = design_named(words) else {
         return finish(Status::Usage, out);
     };
     let mut bytes = Vec::new(alloc);
@@ -146,5 +160,5 @@ pub fn soc<F: Files, O: Out>(
         (F.seen files.old) (O.seen out.old))
         (world (F.seen files.new) (O.seen out.new)) result }
 {
-    run(alloc, words, files, out, rules)
+    answer(alloc, words, files, out, rules)
 }

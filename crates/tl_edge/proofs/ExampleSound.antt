@@ -21,7 +21,7 @@ use Rattle.tl_edge.specs.declared.plan.Leaf.{Leaf}
 use Rattle.tl_edge.specs.declared.plan.PlanPort.{PlanPort}
 use Rattle.tl_edge.specs.Plans.{given_edges, taken_edges, edge_at, ins_of, outs_of, beat_of}
 use Rattle.tl_edge.specs.SoundPlans.{IsSound, IsSoundEdge, IsAligned, IsSmall, HasRanges, HasShape, Carries, Shows, MovesIds, LeavesIds, IsItsSlave, AreApart, IsShort}
-use Rattle.tl_edge.specs.ExamplePlan.{example, edge, port, memory, device, reads_and_writes, from_core, to_crossbar, to_buffer, to_memory, to_width, to_fragmenter, to_device, shrinker, crossbar, buffer, width_adapter, fragmenter, core, ram, uart}
+use Rattle.tl_edge.specs.ExamplePlan.{example, edge, example_port, memory, device, reads_and_writes, from_core, to_crossbar, to_buffer, to_memory, to_width, to_fragmenter, to_device, shrinker, crossbar, buffer, width_adapter, fragmenter, core, ram, uart}
 use Rattle.tl_edge.proofs.Ways.{each_once, no_way_back, Rises}
 
 -- ---- lists of a few
@@ -217,7 +217,7 @@ apart = triple AreApart core ram uart
     (record { nodes = λ e _. omega (arith, e); names = λ e _. other_start (codes "core") (codes "uart") e (inl (omega arith)) })
     (record { nodes = λ e _. omega (arith, e); names = λ e _. other_start (codes "ram") (codes "uart") e (inl (omega arith)) })
 
-is_short : (name : List ℕ) (node number : ℕ) → length name ≤ 32 → IsShort (port name node number)
+is_short : (name : List ℕ) (node number : ℕ) → length name ≤ 32 → IsShort (example_port name node number)
 is_short name node number few = record { name = few; port = omega arith }
 
 short : All IsShort (example.sources ++ example.sinks)

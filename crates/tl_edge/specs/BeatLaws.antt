@@ -30,10 +30,13 @@ pub record IsBeatBack (response : Response) (beat : DBeat) : Type 0 where
 -- each message has a beat at least, so many as are stated, and all with its control fields
 pub record HeadsLaw : Type 0 where
   pub requests : (width : ℕ) (request : Request) → All (IsBeatOf request) (beats_of_request width request)
-  pub request_length : (width : ℕ) (request : Request) → length (beats_of_request width request) ≡ request_beats request.op request.size width
+  pub request_length : (width : ℕ) (request : Request)
+      → length (beats_of_request width request) ≡ request_beats request.op request.size width
   pub request_some : (width : ℕ) (request : Request) → 1 ≤ request_beats request.op request.size width
-  pub responses : (width address : ℕ) (response : Response) → All (IsBeatBack response) (beats_of_response width address response)
-  pub response_length : (width address : ℕ) (response : Response) → length (beats_of_response width address response) ≡ response_beats response.op response.size width
+  pub responses : (width address : ℕ) (response : Response)
+      → All (IsBeatBack response) (beats_of_response width address response)
+  pub response_length : (width address : ℕ) (response : Response)
+      → length (beats_of_response width address response) ≡ response_beats response.op response.size width
   pub response_some : (width : ℕ) (response : Response) → 1 ≤ response_beats response.op response.size width
 
 -- ---- lane by lane
@@ -47,46 +50,65 @@ pub record IsActive (width size address lane : ℕ) : Type 0 where
   pub from : first_lane width size address ≤ lane
   pub to : lane < first_lane width size address + lane_count width size
 
--- a beat of a request lane by lane: an active lane has the byte with the number that the lane has in the message, and is marked where the
--- flag with that number is set; the other lanes are 0 and not marked
+-- a beat of a request lane by lane: an active lane has the byte with the number that the lane has in the message, and
+-- is marked where the flag with that number is set; the other lanes are 0 and not marked
 pub record HasLanes (width : ℕ) (request : Request) (beat : ℕ) : Type 0 where
   pub bytes_fit : (a_beat width request beat).payload < 256 ^ width
   pub bytes : (lane : ℕ) → lane < lane_count width request.size
-      → lane_of 256 (first_lane width request.size request.address + lane) (a_beat width request beat).payload ≡ slice_index request.payload (beat * width + lane)
-  pub other_bytes : (lane : ℕ) → (IsActive width request.size request.address lane → ⊥) → lane_of 256 lane (a_beat width request beat).payload ≡ 0
+      → lane_of 256 (first_lane width request.size request.address + lane) (a_beat width request beat).payload
+      ≡ slice_index request.payload (beat * width + lane)
+  pub other_bytes : (lane : ℕ) → (IsActive width request.size request.address lane → ⊥)
+      → lane_of 256 lane (a_beat width request beat).payload ≡ 0
   pub marks_fit : (a_beat width request beat).mask < 2 ^ width
   pub marks : (lane : ℕ) → lane < lane_count width request.size
-      → lane_of 2 (first_lane width request.size request.address + lane) (a_beat width request beat).mask ≡ from_bool (slice_index_or (flags_of request) (beat * width + lane) false)
-  pub other_marks : (lane : ℕ) → (IsActive width request.size request.address lane → ⊥) → lane_of 2 lane (a_beat width request beat).mask ≡ 0
+      → lane_of 2 (first_lane width request.size request.address + lane) (a_beat width request beat).mask
+      ≡ from_bool (slice_index_or (flags_of request) (beat * width + lane) false)
+  pub other_marks : (lane : ℕ) → (IsActive width request.size request.address lane → ⊥)
+      → lane_of 2 lane (a_beat width request beat).mask ≡ 0
 
 -- a beat of a response to a request at an address lane by lane: likewise, and 0 where it is denied
 pub record HasLanesBack (width address : ℕ) (response : Response) (beat : ℕ) : Type 0 where
   pub bytes_fit : (d_beat width address response beat).payload < 256 ^ width
   pub bytes : response.denied ≡ false → (lane : ℕ) → lane < lane_count width response.size
-      → lane_of 256 (first_lane width response.size address + lane) (d_beat width address response beat).payload ≡ slice_index response.payload (beat * width + lane)
-  pub other_bytes : (lane : ℕ) → (IsActive width response.size address lane → ⊥) → lane_of 256 lane (d_beat width address response beat).payload ≡ 0
+      → lane_of 256 (first_lane width response.size address + lane) (d_beat width address response beat).payload
+      ≡ slice_index response.payload (beat * width + lane)
+  pub other_bytes : (lane : ℕ) → (IsActive width response.size address lane → ⊥)
+      → lane_of 256 lane (d_beat width address response beat).payload ≡ 0
   pub denied : response.denied ≡ true → (d_beat width address response beat).payload ≡ 0
 
 -- the active lanes are lanes of the bus, and each beat has what is stated on its lanes
 pub record LanesLaw : Type 0 where
-  pub active : (width : ℕ) (request : Request) (lane : ℕ) → IsTrue (is_width width) → IsWholeRequest request → IsActive width request.size request.address lane → lane < width
-  pub requests : (width : ℕ) (request : Request) (beat : ℕ) → IsTrue (is_width width) → IsWholeRequest request → beat < request_beats request.op request.size width → HasLanes width request beat
-  pub responses : (width : ℕ) (request : Request) (response : Response) (beat : ℕ) → IsTrue (is_width width) → IsWholeRequest request → IsWholeResponse request response
+  pub active : (width : ℕ) (request : Request) (lane : ℕ) → IsTrue (is_width width) → IsWholeRequest request
+      → IsActive width request.size request.address lane → lane < width
+  pub requests : (width : ℕ) (request : Request) (beat : ℕ) → IsTrue (is_width width) → IsWholeRequest request
+      → beat < request_beats request.op request.size width → HasLanes width request beat
+  pub responses : (width : ℕ) (request : Request) (response : Response) (beat : ℕ) → IsTrue (is_width width)
+      → IsWholeRequest request → IsWholeResponse request response
       → beat < response_beats response.op response.size width → HasLanesBack width request.address response beat
 
 -- ---- put together, the beats give the message back
 
+-- a message is what its beats, put together, give
 pub record JoinLaw : Type 0 where
-  pub requests : (width : ℕ) (request : Request) → IsTrue (is_width width) → IsWholeRequest request → joined_request width (beats_of_request width request) ≡ Some request
-  pub responses : (width : ℕ) (request : Request) (response : Response) → IsTrue (is_width width) → IsWholeRequest request → IsWholeResponse request response
+  pub requests : (width : ℕ) (request : Request) → IsTrue (is_width width) → IsWholeRequest request
+      → joined_request width (beats_of_request width request) ≡ Some request
+  pub responses : (width : ℕ) (request : Request) (response : Response) → IsTrue (is_width width)
+      → IsWholeRequest request → IsWholeResponse request response
       → joined_response width request.address (beats_of_response width request.address response) ≡ Some (told response)
 
 -- ---- messages with the same beats are the same, but for the data of denied responses, which their beats don't tell
 
+-- beats determine their message
 pub record SameLaw : Type 0 where
-  pub requests : (width : ℕ) (request other : Request) → IsTrue (is_width width) → IsWholeRequest request → IsWholeRequest other
+  pub requests : (width : ℕ) (request other : Request) → IsTrue (is_width width) → IsWholeRequest request
+      → IsWholeRequest other
       → beats_of_request width request ≡ beats_of_request width other → request ≡ other
-  pub responses : (width : ℕ) (request : Request) (response other : Response) → IsTrue (is_width width) → IsWholeRequest request → IsWholeResponse request response → IsWholeResponse request other
-      → beats_of_response width request.address response ≡ beats_of_response width request.address other → told response ≡ told other
-  pub granted : (width : ℕ) (request : Request) (response other : Response) → IsTrue (is_width width) → IsWholeRequest request → IsWholeResponse request response → IsWholeResponse request other
-      → response.denied ≡ false → beats_of_response width request.address response ≡ beats_of_response width request.address other → response ≡ other
+  pub responses : (width : ℕ) (request : Request) (response other : Response) → IsTrue (is_width width)
+      → IsWholeRequest request → IsWholeResponse request response → IsWholeResponse request other
+      → beats_of_response width request.address response ≡ beats_of_response width request.address other
+      → told response ≡ told other
+  pub granted : (width : ℕ) (request : Request) (response other : Response) → IsTrue (is_width width)
+      → IsWholeRequest request → IsWholeResponse request response → IsWholeResponse request other
+      → response.denied ≡ false
+      → beats_of_response width request.address response ≡ beats_of_response width request.address other
+      → response ≡ other

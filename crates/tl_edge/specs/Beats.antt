@@ -1,4 +1,5 @@
--- The beats of a message: what channel A or D carries in each cycle of it (SiFive TileLink Specification 1.8, chapter 4).
+-- The beats of a message: what channel A or D carries in each cycle of it (SiFive TileLink Specification 1.8, chapter
+-- 4).
 use Rattle.std.specs.Prelude.{ℕ, ◌+◌, ◌*◌, ◌/◌, ◌%◌, ◌^◌, List, [], ◌∷◌, map, take, drop, replicate, Bool, true, cond, nat_le, min, max}
 use Rattle.std.specs.Int.{from_bool}
 use Rattle.std.specs.List.{range_with_len}
@@ -12,21 +13,26 @@ use Rattle.tl_edge.specs.Messages.{has_data, has_flags, brings_data, bytes_of}
 
 -- ---- how many: a bus of some bytes carries so many in each beat, and a message without data takes one
 
+-- the beats of data of a size
 abbrev pub data_beats : ℕ → ℕ → ℕ
 data_beats size width = max 1 (bytes_of size / width)
 
+-- the beats of a request
 abbrev pub request_beats : Op → ℕ → ℕ → ℕ
 request_beats op size width = cond (has_data op) (data_beats size width) 1
 
+-- the beats of a response
 abbrev pub response_beats : Ack → ℕ → ℕ → ℕ
 response_beats op size width = cond (brings_data op) (data_beats size width) 1
 
--- ---- the active lanes: all of the bus for a message as large as the bus or larger; else as many as it has bytes, from the lane of its
--- address on
+-- ---- the active lanes: all of the bus for a message as large as the bus or larger; else as many as it has bytes, from
+-- the lane of its address on
 
+-- the lowest active lane
 abbrev pub first_lane : ℕ → ℕ → ℕ → ℕ
 first_lane width size address = cond (nat_le width (bytes_of size)) 0 (address % width)
 
+-- how many lanes are active
 abbrev pub lane_count : ℕ → ℕ → ℕ
 lane_count width size = min width (bytes_of size)
 
@@ -45,10 +51,11 @@ number base (digit ∷ digits) = digit + base * number base digits
 abbrev pub on_lanes : ℕ → ℕ → List ℕ → ℕ
 on_lanes base first lanes = base ^ first * number base lanes
 
--- a lane of data is eight bits, one of the mask is one bit
+-- bytes on lanes: a lane of data is eight bits
 abbrev pub on_bytes : ℕ → List ℕ → ℕ
 on_bytes first bytes = on_lanes 256 first bytes
 
+-- flags on lanes: a lane of the mask is one bit
 abbrev pub on_bits : ℕ → List Bool → ℕ
 on_bits first flags = on_lanes 2 first (map from_bool flags)
 
@@ -66,6 +73,7 @@ data_on_lanes width size address beat bytes = on_bytes (first_lane width size ad
 abbrev pub flags_of : Request → List Bool
 flags_of request = cond (has_flags request.op) request.mask (replicate (bytes_of request.size) true)
 
+-- one beat of a request, counted from 0
 abbrev pub a_beat : ℕ → Request → ℕ → ABeat
 a_beat width request beat = record {
   op = request.op;
@@ -79,10 +87,12 @@ a_beat width request beat = record {
 
 -- the beats of a request on a bus of some bytes
 abbrev pub beats_of_request : ℕ → Request → List ABeat
-beats_of_request width request = map (a_beat width request) (range_with_len 0 (request_beats request.op request.size width))
+beats_of_request width request =
+    map (a_beat width request) (range_with_len 0 (request_beats request.op request.size width))
 
 -- ---- responses, to a request at an address; a denied one carries no data
 
+-- one beat of a response, counted from 0
 abbrev pub d_beat : ℕ → ℕ → Response → ℕ → DBeat
 d_beat width address response beat = record {
   op = response.op;
@@ -94,4 +104,5 @@ d_beat width address response beat = record {
 
 -- the beats of a response on a bus of some bytes
 abbrev pub beats_of_response : ℕ → ℕ → Response → List DBeat
-beats_of_response width address response = map (d_beat width address response) (range_with_len 0 (response_beats response.op response.size width))
+beats_of_response width address response =
+    map (d_beat width address response) (range_with_len 0 (response_beats response.op response.size width))

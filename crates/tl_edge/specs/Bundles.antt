@@ -38,6 +38,7 @@ greatest_of value (x ∷ xs) = max (value x) (greatest_of value xs)
 abbrev pub last_address : List Pattern → ℕ
 last_address sets = greatest_of (λ s. bit_or s.base s.mask) sets
 
+-- the greatest address that a slave answers
 abbrev pub greatest_address : List Slave → ℕ
 greatest_address slaves = greatest_of (λ slave. last_address slave.addresses) slaves
 
@@ -45,14 +46,19 @@ greatest_address slaves = greatest_of (λ slave. last_address slave.addresses) s
 abbrev pub largest_transfer : List Slave → ℕ
 largest_transfer slaves = greatest_of (λ slave. largest slave.supports) slaves
 
--- what these numbers mean: no slave answers a greater address and one answers it, if any answers any; likewise for transfers, whose
--- exponent is the logarithm
+-- what these numbers mean: no slave answers a greater address and one answers it, if any answers any; likewise for
+-- transfers, whose exponent is the logarithm
 pub record BitsLaw : Type 0 where
   pub bits : (n : ℕ) → IsLeastBits n (bits_for n)
-  pub no_greater : (slaves : List Slave) (slave : Slave) (set : Pattern) (address : ℕ) → Contains slaves slave → Contains slave.addresses set → In set address → address ≤ greatest_address slaves
-  pub greatest : (slaves : List Slave) → (0 < greatest_address slaves) → (slave : Slave) × Contains slaves slave × ((set : Pattern) × Contains slave.addresses set × In set (greatest_address slaves))
-  pub no_larger : (slaves : List Slave) (slave : Slave) → Contains slaves slave → largest slave.supports ≤ largest_transfer slaves
-  pub largest_one : (slaves : List Slave) → 0 < largest_transfer slaves → (slave : Slave) × Contains slaves slave × (largest slave.supports ≡ largest_transfer slaves)
+  pub no_greater : (slaves : List Slave) (slave : Slave) (set : Pattern) (address : ℕ) → Contains slaves slave
+      → Contains slave.addresses set → In set address → address ≤ greatest_address slaves
+  pub greatest : (slaves : List Slave) → (0 < greatest_address slaves)
+      → (slave : Slave) × Contains slaves slave
+      × ((set : Pattern) × Contains slave.addresses set × In set (greatest_address slaves))
+  pub no_larger : (slaves : List Slave) (slave : Slave) → Contains slaves slave
+      → largest slave.supports ≤ largest_transfer slaves
+  pub largest_one : (slaves : List Slave) → 0 < largest_transfer slaves
+      → (slave : Slave) × Contains slaves slave × (largest slave.supports ≡ largest_transfer slaves)
   pub exponent : (k : ℕ) → log_of (2 ^ k) ≡ k
 
 -- the bundle of an edge with some slaves, ids from 0 to below an end, and a bus of some bytes

@@ -1,5 +1,5 @@
--- A sound plan with a leaf of each template: one source, whose ids a shrinker makes two, and behind a crossbar a memory on a bus of eight
--- bytes and a device on a bus of four.
+-- A sound plan with a leaf of each template: one source, whose ids a shrinker makes two, and behind a crossbar a
+-- memory on a bus of eight bytes and a device on a bus of four.
 use Rattle.std.specs.Prelude.{ℕ, List, [], ◌∷◌, codes}
 use Rattle.dip_sets.specs.SizeRanges.{SizeRange, size_range, no_sizes}
 use Rattle.tl_params.specs.declared.ops.Ops.{Ops}
@@ -17,7 +17,14 @@ use Rattle.tl_edge.specs.SoundPlans.{IsSound}
 -- reads and writes of some sizes
 abbrev pub reads_and_writes : SizeRange → Ops
 reads_and_writes sizes =
-    record { get = sizes; put_full = sizes; put_partial = sizes; arithmetic = no_sizes; logical = no_sizes; intent = no_sizes }
+    record {
+      get = sizes;
+      put_full = sizes;
+      put_partial = sizes;
+      arithmetic = no_sizes;
+      logical = no_sizes;
+      intent = no_sizes;
+    }
 
 -- a memory of 64 KiB
 abbrev pub memory : Slave
@@ -37,64 +44,83 @@ device sizes = record {
   supports = reads_and_writes sizes;
 }
 
+-- an edge with some slaves, ids from 0 to below an end, and a bus of some bytes
 abbrev pub edge : ℕ → ℕ → List Slave → PlanEdge
 edge beat ids slaves = record { bundle = bundle slaves ids beat; slaves = slaves; ids = ids }
 
+-- a leaf of a template
 abbrev pub leaf : Template → List ℕ → List ℕ → List ℕ → Leaf
 leaf template args ins outs = record { template = template; ins = ins; outs = outs; args = args }
 
-abbrev pub port : List ℕ → ℕ → ℕ → PlanPort
-port name node number = record { edge = number; node = node; port = 0; name = name }
+-- the port 0 of a node, at an edge
+abbrev pub example_port : List ℕ → ℕ → ℕ → PlanPort
+example_port name node number = record { edge = number; node = node; port = 0; name = name }
 
 -- ---- the edges, by their numbers from 0
 
+-- edge 0: from the core to the shrinker
 abbrev pub from_core : PlanEdge
 from_core = edge 8 4 (memory ∷ device (size_range 1 64) ∷ [])
 
+-- edge 1: from the shrinker to the crossbar
 abbrev pub to_crossbar : PlanEdge
 to_crossbar = edge 8 2 (memory ∷ device (size_range 1 64) ∷ [])
 
+-- edge 2: from the crossbar to the buffer
 abbrev pub to_buffer : PlanEdge
 to_buffer = edge 8 2 (memory ∷ [])
 
+-- edge 3: from the buffer to the memory
 abbrev pub to_memory : PlanEdge
 to_memory = edge 8 2 (memory ∷ [])
 
+-- edge 4: from the crossbar to the width adapter
 abbrev pub to_width : PlanEdge
 to_width = edge 8 2 (device (size_range 1 64) ∷ [])
 
+-- edge 5: from the width adapter to the fragmenter
 abbrev pub to_fragmenter : PlanEdge
 to_fragmenter = edge 4 2 (device (size_range 1 64) ∷ [])
 
+-- edge 6: from the fragmenter to the device, in transfers of at most a beat
 abbrev pub to_device : PlanEdge
 to_device = edge 4 2 (device (size_range 1 4) ∷ [])
 
 -- ---- the leaves and ports
 
+-- makes four ids two
 abbrev pub shrinker : Leaf
 shrinker = leaf Shrinker (2 ∷ []) (0 ∷ []) (1 ∷ [])
 
+-- joins the core to memory and device
 abbrev pub crossbar : Leaf
 crossbar = leaf Xbar [] (1 ∷ []) (2 ∷ 4 ∷ [])
 
+-- before the memory
 abbrev pub buffer : Leaf
 buffer = leaf Buffer [] (2 ∷ []) (3 ∷ [])
 
+-- from eight bytes to four
 abbrev pub width_adapter : Leaf
 width_adapter = leaf Width (8 ∷ []) (4 ∷ []) (5 ∷ [])
 
+-- cuts transfers to 64 bytes into pieces of 4
 abbrev pub fragmenter : Leaf
 fragmenter = leaf Fragmenter (4 ∷ 64 ∷ []) (5 ∷ []) (6 ∷ [])
 
+-- where requests enter
 abbrev pub core : PlanPort
-core = port (codes "core") 0 0
+core = example_port (codes "core") 0 0
 
+-- where those to the memory leave
 abbrev pub ram : PlanPort
-ram = port (codes "ram") 4 3
+ram = example_port (codes "ram") 4 3
 
+-- where those to the device leave
 abbrev pub uart : PlanPort
-uart = port (codes "uart") 7 6
+uart = example_port (codes "uart") 7 6
 
+-- the whole plan
 abbrev pub example : Plan
 example = record {
   name = codes "example";
@@ -105,5 +131,6 @@ example = record {
   sinks = ram ∷ uart ∷ [];
 }
 
+-- a plan with a leaf of each template is sound
 abbrev pub SomePlanIsSound : Type 0
 SomePlanIsSound = IsSound example

@@ -17,14 +17,18 @@ digits base (suc more) n = n % base ∷ digits base more (n / base)
 abbrev pub active_digits : ℕ → ℕ → ℕ → ℕ → ℕ → List ℕ
 active_digits base width size address n = digits base (lane_count width size) (n / base ^ first_lane width size address)
 
--- ---- requests: the control fields of the first beat, and what the active lanes of all beats hold, one beat after the other
+-- ---- requests: the control fields of the first beat, and what the active lanes of all beats hold in order
 
+-- the bytes in a beat of a request
 abbrev pub bytes_in : ℕ → ABeat → List ℕ
 bytes_in width beat = cond (has_data beat.op) (active_digits 256 width beat.size beat.address beat.payload) []
 
+-- the flags in a beat of a request
 abbrev pub flags_in : ℕ → ABeat → List Bool
-flags_in width beat = cond (has_flags beat.op) (map (λ bit. bit == 1) (active_digits 2 width beat.size beat.address beat.mask)) []
+flags_in width beat =
+    cond (has_flags beat.op) (map (λ bit. bit == 1) (active_digits 2 width beat.size beat.address beat.mask)) []
 
+-- the request that beats give, put together
 abbrev pub joined_request : ℕ → List ABeat → Option Request
 joined_request width [] = None
 joined_request width (beat ∷ beats) = Some record {
@@ -39,9 +43,11 @@ joined_request width (beat ∷ beats) = Some record {
 
 -- ---- responses to a request at an address: likewise
 
+-- the bytes in a beat of a response
 abbrev pub bytes_back : ℕ → ℕ → DBeat → List ℕ
 bytes_back width address beat = cond (brings_data beat.op) (active_digits 256 width beat.size address beat.payload) []
 
+-- the response that beats give, put together
 abbrev pub joined_response : ℕ → ℕ → List DBeat → Option Response
 joined_response width address [] = None
 joined_response width address (beat ∷ beats) = Some record {

@@ -17,13 +17,13 @@ has_param Get param = param == 0
 has_param Intent param = nat_lt param 2
 
 -- the op that answers an op
-abbrev pub answer_of : Op → Ack
-answer_of PutFull = Plain
-answer_of PutPartial = Plain
-answer_of Arithmetic = AckData
-answer_of Logical = AckData
-answer_of Get = AckData
-answer_of Intent = HintAck
+abbrev pub ack_of : Op → Ack
+ack_of PutFull = Plain
+ack_of PutPartial = Plain
+ack_of Arithmetic = AckData
+ack_of Logical = AckData
+ack_of Get = AckData
+ack_of Intent = HintAck
 
 -- a request carries data
 abbrev pub has_data : Op → Bool
@@ -53,8 +53,8 @@ brings_data HintAck = false
 abbrev pub bytes_of : ℕ → ℕ
 bytes_of size = 2 ^ size
 
--- a request as it may be sent at all: at most 256 bytes, aligned, with a flag for each byte where it says which are written, and with all
--- bytes of its data
+-- a request as it may be sent at all, whatever its param: at most 256 bytes, aligned, with a flag for each byte where
+-- it says which are written, and with all bytes of its data
 pub record IsRequest (request : Request) : Type 0 where
   pub small : request.size ≤ 8
   pub aligned : request.address % bytes_of request.size ≡ 0
@@ -62,8 +62,8 @@ pub record IsRequest (request : Request) : Type 0 where
   pub bytes : length request.payload ≡ cond (has_data request.op) (bytes_of request.size) 0
 
 -- a response to a request: the op that answers it, its size and id, and all bytes of the data that it brings
-pub record Answers (request : Request) (response : Response) : Type 0 where
-  pub op : response.op ≡ answer_of request.op
+pub record RespondsTo (request : Request) (response : Response) : Type 0 where
+  pub op : response.op ≡ ack_of request.op
   pub size : response.size ≡ request.size
   pub source : response.source ≡ request.source
   pub bytes : length response.payload ≡ cond (brings_data response.op) (bytes_of response.size) 0
@@ -72,11 +72,12 @@ pub record Answers (request : Request) (response : Response) : Type 0 where
 abbrev pub AreBytes : List ℕ → Type 0
 AreBytes bytes = All (λ byte. byte < 256) bytes
 
--- the same with the bytes as bytes: laws speak of lists of numbers
+-- such a request whose bytes are bytes: laws speak of lists of numbers
 pub record IsWholeRequest (request : Request) : Type 0 where
   pub shape : IsRequest request
   pub bytes : AreBytes request.payload
 
+-- such a response whose bytes are bytes
 pub record IsWholeResponse (request : Request) (response : Response) : Type 0 where
-  pub answers : Answers request response
+  pub answers : RespondsTo request response
   pub bytes : AreBytes response.payload

@@ -10,18 +10,23 @@ use Rattle.tl_edge.specs.declared.plan.Plan.{Plan}
 
 -- ---- edges by their numbers
 
+-- the bundle of no edge
 abbrev pub no_bundle : Bundle
 no_bundle = record { address_bits = 0; data_bytes = 0; source_bits = 0; size_bits = 0 }
 
+-- what stands for an edge whose number is none of a plan's
 abbrev pub no_edge : PlanEdge
 no_edge = record { bundle = no_bundle; slaves = []; ids = 0 }
 
+-- the edge with a number
 abbrev pub edge_at : Plan → ℕ → PlanEdge
 edge_at plan number = unwrap_or (slice_get plan.edges number) no_edge
 
+-- the edges from which a leaf's requests come
 abbrev pub ins_of : Plan → Leaf → List PlanEdge
 ins_of plan leaf = map (edge_at plan) leaf.ins
 
+-- the edges to which they go
 abbrev pub outs_of : Plan → Leaf → List PlanEdge
 outs_of plan leaf = map (edge_at plan) leaf.outs
 
@@ -35,6 +40,7 @@ beat_of edge = edge.bundle.data_bytes
 
 -- ---- who puts requests onto edges, and who takes them
 
+-- the numbers of some ports' edges
 abbrev pub port_edges : List PlanPort → List ℕ
 port_edges ports = map (λ (port : PlanPort). port.edge) ports
 
@@ -63,11 +69,11 @@ pub record IsJoined (plan : Plan) (leaf other : ℕ) : Type 0 where
   pub out : Contains above.outs edge
   pub taken : Contains below.ins edge
 
--- From a leaf over others to a last one, each joined to the next.
+-- from a leaf over others to a last one, each joined to the next.
 abbrev pub IsWay : Plan → ℕ → List ℕ → ℕ → Type 0
 IsWay plan leaf [] last = IsJoined plan leaf last
 IsWay plan leaf (next ∷ others) last = IsJoined plan leaf next × IsWay plan next others last
 
--- A leaf reaches another along edges.
+-- a leaf reaches another along edges.
 abbrev pub Reaches : Plan → ℕ → ℕ → Type 0
 Reaches plan leaf other = (between : List ℕ) × IsWay plan leaf between other

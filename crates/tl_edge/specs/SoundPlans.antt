@@ -37,6 +37,7 @@ pub record IsSmall (slave : Slave) : Type 0 where
 abbrev pub HasRanges : Slave → Type 0
 HasRanges slave = (op : Op) → IsTrue (is_size_range (sizes_of slave.supports op))
 
+-- what an edge of a sound plan keeps
 pub record IsSoundEdge (edge : PlanEdge) : Type 0 where
   pub some_ids : 1 ≤ edge.ids
   pub few_ids : edge.ids ≤ 1024
@@ -61,7 +62,8 @@ abbrev pub pieces_of : Template → List ℕ → Option SizeRange
 pieces_of Fragmenter args = option_map (λ fragments. size_range 1 fragments.min) (fragment_arguments args)
 pieces_of _ args = None
 
--- an edge shows the slaves of others in order, and promises no more than they support, or than can be cut into what they support
+-- an edge shows the slaves of others in order, and promises no more than they support, or than can be cut into what
+-- they support
 abbrev pub Shows : Option SizeRange → List PlanEdge → PlanEdge → Type 0
 Shows pieces others edge = IsTrue (slaves_fit pieces edge.slaves (joined_slaves others))
 
@@ -71,12 +73,13 @@ BeatsAgree Width edges = All (λ edge. IsTrue (is_width (beat_of edge))) edges
 BeatsAgree _ edges = AllPairs (λ edge other. beat_of edge ≡ beat_of other) edges
 
 -- a fragmenter's pieces have at least the bytes of one beat of what they go to
-abbrev pub ArePieces : Option SizeRange → List PlanEdge → Type 0
-ArePieces None outs = ⊥
-ArePieces (Some fragments) outs = All (λ edge. beat_of edge ≤ fragments.min) outs
+abbrev pub FillBeats : Option SizeRange → List PlanEdge → Type 0
+FillBeats None outs = ⊥
+FillBeats (Some fragments) outs = All (λ edge. beat_of edge ≤ fragments.min) outs
 
+-- the arguments of a leaf are such as its template takes, and fit its out edges
 abbrev pub ArgumentsAgree : Template → List ℕ → List PlanEdge → Type 0
-ArgumentsAgree Fragmenter args outs = ArePieces (fragment_arguments args) outs
+ArgumentsAgree Fragmenter args outs = FillBeats (fragment_arguments args) outs
 ArgumentsAgree Shrinker args outs = (ids : ℕ) × (shrink_argument args ≡ Some ids)
 ArgumentsAgree _ args outs = Unit {0}
 
@@ -86,6 +89,7 @@ pub record Carries (template : Template) (args : List ℕ) (ins outs : List Plan
   pub beats : BeatsAgree template (ins ++ outs)
   pub arguments : ArgumentsAgree template args outs
 
+-- how many ids some edges have
 abbrev pub ids_of : List PlanEdge → List ℕ
 ids_of edges = map (λ (edge : PlanEdge). edge.ids) edges
 
@@ -95,12 +99,14 @@ moved_end [] ranges = 0
 moved_end (count ∷ counts) [] = 0
 moved_end (count ∷ counts) (range ∷ ranges) = max (count + range.start) (moved_end counts ranges)
 
--- the ids that leave a leaf: as many as come in, but that a shrinker makes its own, and a crossbar moves those of each input
+-- the ids that leave a leaf: as many as come in, but that a shrinker makes its own, and a crossbar moves those of
+-- each input
 abbrev pub LeavesIds : Template → List ℕ → List ℕ → ℕ → Type 0
 LeavesIds Shrinker args ins out = shrink_argument args ≡ Some out
 LeavesIds Xbar args ins out = out ≡ moved_end ins (assigned ins)
 LeavesIds _ args ins out = All (λ ids. out ≡ ids) ins
 
+-- each out edge has the ids that leave the leaf
 abbrev pub MovesIds : Template → List ℕ → List PlanEdge → List PlanEdge → Type 0
 MovesIds template args ins outs = All (LeavesIds template args (ids_of ins)) (ids_of outs)
 
@@ -118,12 +124,14 @@ pub record AreApart (a b : PlanPort) : Type 0 where
   pub nodes : a.node ≡ b.node → a.port ≡ b.port → ⊥
   pub names : a.name ≡ b.name → a.port ≡ b.port → ⊥
 
+-- a name of at most 32 bytes, and a port below 64
 pub record IsShort (at : PlanPort) : Type 0 where
   pub name : length at.name ≤ 32
   pub port : at.port < 64
 
 -- ---- a whole plan
 
+-- each edge has one giver and one taker, no way leads back, and edges, leaves and ports agree
 pub record IsSound (plan : Plan) : Type 0 where
   pub few_edges : length plan.edges ≤ 1024
   pub given : All (λ edge. edge < length plan.edges) (given_edges plan)
@@ -133,7 +141,8 @@ pub record IsSound (plan : Plan) : Type 0 where
   pub shaped : All (λ (leaf : Leaf). HasShape leaf.template leaf.ins leaf.outs) plan.leaves
   pub acyclic : (leaf : ℕ) → Reaches plan leaf leaf → ⊥
   pub edges : All IsSoundEdge plan.edges
-  pub carries : All (λ (leaf : Leaf). Carries leaf.template leaf.args (ins_of plan leaf) (outs_of plan leaf)) plan.leaves
+  pub carries :
+      All (λ (leaf : Leaf). Carries leaf.template leaf.args (ins_of plan leaf) (outs_of plan leaf)) plan.leaves
   pub ids : All (λ (leaf : Leaf). MovesIds leaf.template leaf.args (ins_of plan leaf) (outs_of plan leaf)) plan.leaves
   pub answered : All (λ (port : PlanPort). IsItsSlave (edge_at plan port.edge).slaves port) plan.sinks
   pub apart : AllPairs AreApart (plan.sources ++ plan.sinks)

@@ -24,7 +24,8 @@ SpellsRequests width requests beats = beats ≡ flat_map (beats_of_request width
 
 -- nothing, or the first beats of one more request
 abbrev pub BeginsRequest : ℕ → List ABeat → Type 0
-BeginsRequest width front = (front ≡ []) ⊎ ((more : Request) × IsWholeRequest more × IsFront (beats_of_request width more) front)
+BeginsRequest width front =
+    (front ≡ []) ⊎ ((more : Request) × IsWholeRequest more × IsFront (beats_of_request width more) front)
 
 -- a list of beats spells requests, followed at most by the first beats of one more
 pub record SpellsUpTo (width : ℕ) (requests : List Request) (front beats : List ABeat) : Type 0 where
@@ -34,23 +35,30 @@ pub record SpellsUpTo (width : ℕ) (requests : List Request) (front beats : Lis
 
 -- ---- responses, each with the request that it answers
 
+-- a request and what answers it
 pub record Exchange : Type 0 where
   pub request : Request
   pub response : Response
 
+-- both are whole, and the response is one to the request
 pub record IsExchange (exchange : Exchange) : Type 0 where
   pub request : IsWholeRequest exchange.request
   pub response : IsWholeResponse exchange.request exchange.response
 
+-- the beats of a response
 abbrev pub beats_back : ℕ → Exchange → List DBeat
 beats_back width exchange = beats_of_response width exchange.request.address exchange.response
 
+-- a list of beats spells responses where it is their beats joined in order
 abbrev pub SpellsResponses : ℕ → List Exchange → List DBeat → Type 0
 SpellsResponses width exchanges beats = beats ≡ flat_map (beats_back width) exchanges
 
+-- nothing, or the first beats of one more response
 abbrev pub BeginsResponse : ℕ → List DBeat → Type 0
-BeginsResponse width front = (front ≡ []) ⊎ ((more : Exchange) × IsExchange more × IsFront (beats_back width more) front)
+BeginsResponse width front =
+    (front ≡ []) ⊎ ((more : Exchange) × IsExchange more × IsFront (beats_back width more) front)
 
+-- a list of beats spells responses, followed at most by the first beats of one more
 pub record SpellsBackUpTo (width : ℕ) (exchanges : List Exchange) (front beats : List DBeat) : Type 0 where
   pub whole : All IsExchange exchanges
   pub begins : BeginsResponse width front
@@ -62,15 +70,22 @@ pub record SpellsBackUpTo (width : ℕ) (exchanges : List Exchange) (front beats
 abbrev pub TellsSame : Exchange → Exchange → Type 0
 TellsSame one other = one.request ≡ other.request → told one.response ≡ told other.response
 
+-- beats in a row are those of one list of messages only, but for the data of denied responses
 pub record SpellingLaw : Type 0 where
-  pub requests : (width : ℕ) (requests others : List Request) (beats : List ABeat) → IsTrue (is_width width) → All IsWholeRequest requests → All IsWholeRequest others
+  pub requests : (width : ℕ) (requests others : List Request) (beats : List ABeat) → IsTrue (is_width width)
+      → All IsWholeRequest requests → All IsWholeRequest others
       → SpellsRequests width requests beats → SpellsRequests width others beats → requests ≡ others
-  pub requests_up_to : (width : ℕ) (requests others : List Request) (front rest beats : List ABeat) → IsTrue (is_width width)
-      → SpellsUpTo width requests front beats → SpellsUpTo width others rest beats → (requests ≡ others) × (front ≡ rest)
-  pub responses : (width : ℕ) (exchanges others : List Exchange) (beats : List DBeat) → IsTrue (is_width width) → All IsExchange exchanges → All IsExchange others
+  pub requests_up_to : (width : ℕ) (requests others : List Request) (front rest beats : List ABeat)
+      → IsTrue (is_width width)
+      → SpellsUpTo width requests front beats → SpellsUpTo width others rest beats
+      → (requests ≡ others) × (front ≡ rest)
+  pub responses : (width : ℕ) (exchanges others : List Exchange) (beats : List DBeat) → IsTrue (is_width width)
+      → All IsExchange exchanges → All IsExchange others
       → SpellsResponses width exchanges beats → SpellsResponses width others beats → AllZip TellsSame exchanges others
-  pub responses_up_to : (width : ℕ) (exchanges others : List Exchange) (front rest beats : List DBeat) → IsTrue (is_width width)
-      → SpellsBackUpTo width exchanges front beats → SpellsBackUpTo width others rest beats → AllZip TellsSame exchanges others × (front ≡ rest)
+  pub responses_up_to : (width : ℕ) (exchanges others : List Exchange) (front rest beats : List DBeat)
+      → IsTrue (is_width width)
+      → SpellsBackUpTo width exchanges front beats → SpellsBackUpTo width others rest beats
+      → AllZip TellsSame exchanges others × (front ≡ rest)
 
 -- ---- the first of some beats in a row
 
@@ -81,6 +96,9 @@ pub record IsCut {A B : Type 0} (beats_of : A → List B) (messages : List A) (b
   pub next : (front ≡ []) ⊎ ((more : A) × (slice_get messages count ≡ Some more) × IsFront (beats_of more) front)
   pub is : beats ≡ flat_map beats_of (take count messages) ++ front
 
+-- the first of the beats of some messages are cut so
 pub record PrefixLaw : Type 0 where
-  pub requests : (width : ℕ) (requests : List Request) (beats rest : List ABeat) → beats ++ rest ≡ flat_map (beats_of_request width) requests → IsCut (beats_of_request width) requests beats
-  pub responses : (width : ℕ) (exchanges : List Exchange) (beats rest : List DBeat) → beats ++ rest ≡ flat_map (beats_back width) exchanges → IsCut (beats_back width) exchanges beats
+  pub requests : (width : ℕ) (requests : List Request) (beats rest : List ABeat)
+      → beats ++ rest ≡ flat_map (beats_of_request width) requests → IsCut (beats_of_request width) requests beats
+  pub responses : (width : ℕ) (exchanges : List Exchange) (beats rest : List DBeat)
+      → beats ++ rest ≡ flat_map (beats_back width) exchanges → IsCut (beats_back width) exchanges beats

@@ -43,9 +43,6 @@ pub struct Tag {
     pub piece: u32,
 }
 
-/// Tags, in order.
-pub type Tags = Items<Tag>;
-
 /// What happens at a port.
 #[derive(Clone, Copy, Debug, PartialEq, Eq)]
 pub enum What {

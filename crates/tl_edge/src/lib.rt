@@ -1,4 +1,5 @@
-//! What crosses an edge: the widths of its wires, messages, and the beats that carry them.
+//! What crosses an edge: the widths of its wires, messages, and the beats that carry them; and plans, of
+//! which networks are built.
 #![tactic(auto)]
 
 mod beat;
@@ -9,15 +10,13 @@ mod message;
 mod plan;
 mod request;
 mod response;
-#[cfg(test)]
-mod tests;
 
-pub use beat::{ABeat, ABeats, DBeat, DBeats, Event, History, Tag, Tags, What};
+pub use beat::{ABeat, ABeats, DBeat, DBeats, Event, History, Tag, What};
 pub use bundle::{Bundle, bundle_of};
 pub use laws::{bits_law, heads_law, join_law, lanes_law, prefix_law, same_law, spelling_law};
 pub use message::{
-    Bytes, Flags, Request, Requests, Response, Responses, answer_of, brings_data, has_data,
-    has_flags, has_param,
+    Flags, Request, Requests, Response, Responses, ack_of, brings_data, has_data, has_flags,
+    has_param,
 };
 pub use plan::{Leaf, Leaves, Plan, PlanEdge, PlanEdges, PlanPort, PlanPorts, sound_plan_law};
 pub use request::{a_beats, beats};

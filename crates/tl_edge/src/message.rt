@@ -1,14 +1,11 @@
 ghost use Rattle.std.specs.Prelude.{◌≡◌};
 ghost use Rattle.tl_edge.specs.Messages as spec;
 
-use dip_lists::Items;
+use dip_lists::{Bytes, Items};
 use tl_params::{Ack, Op};
 
 /// A flag for each byte of a message.
 pub type Flags = Items<bool>;
-
-/// The data of a message.
-pub type Bytes = Items<u8>;
 
 /// A whole message of channel A.
 #[derive(Debug, Drop)]
@@ -76,8 +73,8 @@ pub fn has_flags(op: Op) -> bool
 }
 
 /// The op of the response to a request.
-pub fn answer_of(op: Op) -> Ack
-    ensures { result ≡ spec.answer_of op }
+pub fn ack_of(op: Op) -> Ack
+    ensures { result ≡ spec.ack_of op }
 {
     match op {
         Op::PutFull | Op::PutPartial => Ack::Ack,

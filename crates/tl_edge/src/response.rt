@@ -27,7 +27,7 @@ fn response_beats(op: Ack, size: u32, width: u32) -> u32
 fn payload_of(width: u32, request: &Request, response: &Response, beat: u32) -> u64
     requires width { IsTrue (is_width width) }
     requires request { messages.IsRequest request.now }
-    requires response { messages.Answers request.now response.now }
+    requires response { messages.RespondsTo request.now response.now }
     requires beat { beat < spec.response_beats response.now.op response.now.size width }
     ensures { result ≡
         spec.data_on_lanes width response.now.size request.now.address beat response.now.payload }
@@ -40,7 +40,7 @@ fn payload_of(width: u32, request: &Request, response: &Response, beat: u32) -> 
 fn d_beat(width: u32, request: &Request, response: &Response, beat: u32) -> DBeat
     requires width { IsTrue (is_width width) }
     requires request { messages.IsRequest request.now }
-    requires response { messages.Answers request.now response.now }
+    requires response { messages.RespondsTo request.now response.now }
     requires beat { beat < spec.response_beats response.now.op response.now.size width }
     ensures { result ≡ spec.d_beat width request.now.address response.now beat }
 {
@@ -67,7 +67,7 @@ pub fn d_beats(
 ) -> Result<DBeats, Memory>
     requires width { IsTrue (is_width width) }
     requires request { messages.IsRequest request.now }
-    requires response { messages.Answers request.now response.now }
+    requires response { messages.RespondsTo request.now response.now }
     ensures { IfOk result (λ list. list ≡ spec.beats_of_response width request.now.address response.now) }
 {
     let mut list = Items::new(alloc);

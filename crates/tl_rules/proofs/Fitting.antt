@@ -1,5 +1,5 @@
 -- The answers of the standard rules fit their templates.
-use Rattle.std.proofs.Common.{ℕ, ◌≡◌, ◌≤◌, min, max, List, [], ◌∷◌, length, map, Bool, true, false, ◌&&◌, ◌==◌, ◌⊎◌, inl, inr, cond, nat_le, IsTrue, Option, Some, None, Result, Ok, Err, refl, sym, arith, le-leb}
+use Rattle.std.proofs.Common.{ℕ, ◌≡◌, ◌≤◌, min, max, List, [], ◌∷◌, length, map, Bool, true, false, ◌&&◌, ◌⊎◌, inl, inr, cond, nat_le, IsTrue, Option, Some, None, Result, Ok, Err, refl, sym, arith, le-leb}
 use Rattle.std.specs.List.{list_all, flat_map}
 use Rattle.std.proofs.lemmas.Bool.{leb-true}
 use Rattle.dip_sets.specs.SizeRanges.{SizeRange, size_range, has_size, is_within, meet, no_sizes}

@@ -39,8 +39,8 @@ pub record EdgePorts : Type 0 where
 abbrev pub edge_ports : DownPort → UpPort → EdgePorts
 edge_ports down up = record { down = down; up = up }
 
--- a fragmenter between an in edge and an out edge, if its arguments are right: its pieces have at least the bytes of one
--- beat
+-- a fragmenter between an in edge and an out edge, if its arguments are right: its pieces have at least the bytes of
+-- one beat
 abbrev pub fragments_fit : Option SizeRange → EdgePorts → EdgePorts → Bool
 fragments_fit None above below = false
 fragments_fit (Some fragments) above below =
@@ -108,8 +108,8 @@ abbrev pub template_fits : Template → List ℕ → List ℕ → List ℕ → L
 template_fits template args ins outs down up =
     cond (is_nexus template)
     (
-      inputs_fit (map (port_up up) ins) (map (port_up up) outs)
-      && outputs_fit (map (port_down down) ins) (map (port_down down) outs)
+    inputs_fit (map (port_up up) ins) (map (port_up up) outs)
+    && outputs_fit (map (port_down down) ins) (map (port_down down) outs)
     )
     (all_zip (λ above below. adapter_fits template args (ports_at down up above) (ports_at down up below)) ins outs)
 

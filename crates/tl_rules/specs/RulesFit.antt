@@ -11,8 +11,8 @@ use Rattle.tl_rules.specs.Shrinks.{shrinker_down, shrinker_up}
 use Rattle.tl_rules.specs.Crossbars.{xbar_down, xbar_up}
 use Rattle.tl_rules.specs.Fits.{edge_ports, adapter_fits, inputs_fit, outputs_fit}
 
--- One port comes down an in edge, another comes up its out edge, and the rule answers what goes on below and above: these
--- ports fit what is built for the rule's kind.
+-- One port comes down an in edge, another comes up its out edge, and the rule answers what goes on below and above:
+-- these ports fit what is built for the rule's kind.
 pub record RulesFitLaw : Type 0 where
   pub buffer : (args : List ℕ) (down below : DownPort) (up above : UpPort)
       → buffer_down args (down ∷ []) ≡ Ok below → buffer_up args (up ∷ []) ≡ Ok above

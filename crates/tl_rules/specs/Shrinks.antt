@@ -31,15 +31,15 @@ abbrev pub shrunk_port : ℕ → List Master → Result DownPort ℕ
 shrunk_port ids [] = Err 2
 shrunk_port ids (m ∷ masters) =
     Ok (
-      record {
-        masters =
-            record {
-              node = m.node;
-              port = m.port;
-              ids = record { start = 0; end = ids };
-              emits = cover_emits m.emits masters;
-            } ∷ [];
-      }
+    record {
+      masters =
+          record {
+            node = m.node;
+            port = m.port;
+            ids = record { start = 0; end = ids };
+            emits = cover_emits m.emits masters;
+          } ∷ [];
+    }
     )
 
 -- what it states down

@@ -1,11 +1,12 @@
 ghost use Rattle.std.specs.Prelude.{◌≡◌, ◌<◌, ◌≤◌, length, map, slice_get, take, None, Some, All, IsTrue};
 ghost use Rattle.std.specs.List.{flat_map, list_all};
 ghost use Rattle.dip_sets.specs.Assignments.{rounded, sum_before};
-ghost use Rattle.tl_rules.specs.Crossbars.{id_count, is_id_count, input_ranges, joined_masters, shifted_master};
+ghost use Rattle.tl_rules.specs.Crossbars.{id_count, is_id_count, input_ranges, joined_masters};
+ghost use Rattle.tl_rules.specs.Crossbars.{shifted_master};
 ghost use Rattle.tl_params.specs.Carried as carried;
 ghost use Rattle.tl_rules.specs.Fits as spec;
 
-use crate::fit::{begin_with, port_down, same_ids, port_up};
+use crate::fit::{begin_with, port_down, port_up, same_ids};
 use crate::ports::behind;
 use crate::xbar::is_id_count;
 use dip_sets::{goes_first, rounded_up};
@@ -32,7 +33,8 @@ fn shows_outputs(slaves: &[Slave], outs: &[u32], up: &[UpPort]) -> bool
 pub fn inputs_fit(ins: &[u32], outs: &[u32], up: &[UpPort]) -> bool
     requires ins { All (λ edge. edge < length up.now) ins.now }
     requires outs { All (λ edge. edge < length up.now) outs.now }
-    ensures { result ≡ spec.inputs_fit (map (spec.port_up up.now) ins.now) (map (spec.port_up up.now) outs.now) }
+    ensures { result ≡ spec.inputs_fit (map (spec.port_up up.now) ins.now)
+        (map (spec.port_up up.now) outs.now) }
 {
     for input in ins {
         if !shows_outputs(port_up(up, *input).slaves.as_slice(), outs, up) {
@@ -153,9 +155,10 @@ fn first_stands_for_all(first: u32, ins: &[u32], outs: &[u32], down: &[DownPort]
     requires first { slice_get outs.now 0 ≡ Some first }
     requires few { length ins.now ≤ 1024 }
     requires counts { All (λ input. IsTrue (is_id_count (id_count (spec.port_down down.now input)))) ins.now }
-    ensures { result ≡ list_all (λ output. spec.same_ids (joined_masters (map (spec.port_down down.now) ins.now)
-        (input_ranges (map (spec.port_down down.now) ins.now))) output.masters) (map (spec.port_down down.now)
-        outs.now) }
+    ensures { result ≡ list_all (λ output. spec.same_ids
+        (joined_masters (map (spec.port_down down.now) ins.now)
+        (input_ranges (map (spec.port_down down.now) ins.now))) output.masters)
+        (map (spec.port_down down.now) outs.now) }
 {
     let masters = port_down(down, first).masters.as_slice();
     has_inputs(masters, ins, down) && all_have_ids(masters, outs, down)

@@ -45,7 +45,8 @@ fn cover_emits(ops: &Ops, masters: &[Master]) -> Ops
     cover
 }
 
-// One master in place of all: the first one's node and port, so many ids from 0 on, the cover of what all emit.
+// One master in place of all: the first one's node and port, so many ids from 0 on, the cover of what all
+// emit.
 fn shrunk_port(alloc: Global, ids: u32, masters: &[Master]) -> Result<DownPort, RuleFault>
     ensures { Answers (spec.shrunk_port ids masters.now) result }
 {

@@ -1,7 +1,8 @@
-// The five standard rules as `Stored` values. Each stands as forty lines that differ in names alone, since what they
-// share can't be shared: `Says` states by a type, so each rule wants a type of its own; an `impl` that a macro of this
-// repository writes is refused; and a struct that holds a bare function or closure can't be boxed as a rule. Both sides
-// of a rule are one struct, whose value stands twice in the rule: as the side that is asked down and the one asked up.
+// The five standard rules as `Stored` values. Each stands as forty lines that differ in names alone, since
+// what they share can't be shared: `Says` states by a type, so each rule wants a type of its own; an `impl`
+// that a macro of this repository writes is refused; and a struct that holds a bare function or closure
+// can't be boxed as a rule. Both sides of a rule are one struct, whose value stands twice in the rule: as
+// the side that is asked down and the one asked up.
 
 ghost use Rattle.std.specs.Prelude.{⊤};
 ghost use Rattle.dip_rule.specs.Stated.{Answers};

@@ -46,7 +46,8 @@ pub fn keys_among(keys: &[&str], table: &Table) -> bool
     true
 }
 
-/// What it means that each key of a table is among some: whatever stands in the table stands under one of them.
+/// What it means that each key of a table is among some: whatever stands in the table stands under one of
+/// them.
 pub fn keys_law()
     ensures { KeysLaw }
 {}

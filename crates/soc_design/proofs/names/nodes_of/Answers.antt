@@ -3,7 +3,8 @@ use Rattle.std.specs.Option.{option_map, option_and_then}
 use Rattle.std.specs.Vec.Iter.{into_iter_items}
 use Rattle.std.proofs.lemmas.List.Elements.{All-push, All-head, All-same, All-rest}
 use Rattle.toml.specs.View.{view, items_view}
-use Rattle.dip_names.specs.Numbers.{is_named}
+use Rattle.std.specs.List.{list_any}
+use Rattle.std.specs.Str.{bytes_eq}
 use Rattle.dip_lists.specs.First.{failure_of}
 use Rattle.dip_graph.specs.declared.design.NodeEntry.{NodeEntry}
 use Rattle.soc_design.specs.declared.nodes.LimitedNode.{LimitedNode}
@@ -47,8 +48,8 @@ returns-then-has-clause-err c =
     (sym c.loop-place.invariant.passes
     ∙ stops (node_is_unnamed c.args.modules.now names) c.loop-place.place _ tables value c.index-tables-place.is c.loop-place-test.true
     (first_of _ _
-    (ap (λ earlier. is_named earlier (name_at (view value))) (sym c.loop-place.invariant.named)
-    ∙ ap (is_named c.loop-place.names) (sym (c.as_str.ensures.text ∙ node_name (view value) _ parts.0))
+    (ap (list_any (bytes_eq (name_at (view value)))) (sym c.loop-place.invariant.named)
+    ∙ ap (λ name. list_any (bytes_eq name) c.loop-place.names) (sym (c.as_str.ensures.text ∙ node_name (view value) _ parts.0))
     ∙ sym c.has.ensures ∙ c.if-has.true)))
 
 pub loop-place-preserved : goal.loop-place-preserved
@@ -96,8 +97,8 @@ loop-place-preserved c =
       passes =
           passes (node_is_unnamed modules names) place _ _ tables value c.index-tables-place.is c.loop-place-test.true (omega arith)
           (neither _ _
-          (ap (λ earlier. is_named earlier (name_at (view value))) (sym c.loop-place.invariant.named)
-          ∙ ap (is_named c.loop-place.names) (sym (c.as_str.ensures.text ∙ name))
+          (ap (list_any (bytes_eq (name_at (view value)))) (sym c.loop-place.invariant.named)
+          ∙ ap (λ name. list_any (bytes_eq name) c.loop-place.names) (sym (c.as_str.ensures.text ∙ name))
           ∙ sym c.has.ensures ∙ c.if-has.false)
           (ap is_none placed))
           ∙ c.loop-place.invariant.passes;

@@ -1,0 +1,80 @@
+ghost use Rattle.std.specs.Prelude.{Err, ⊤};
+ghost use Rattle.dip_rule.specs.Stated.{Answers, IsStated};
+
+use dip_lists::{Items, Memory};
+use dip_rule::{AskedDown, AskedUp, ByDown, ByUp, Rule, RuleFault, Says, Stored};
+use std::alloc::Global;
+use tl_params::{Args, DownPort, UpPort};
+
+/// Refuses all with 7 down and with 8 up.
+#[derive(Drop)]
+pub struct Refusing;
+
+/// A rule that refuses all.
+pub type RefusingRule = Stored<Refusing, Refusing, Refusing>;
+
+impl Says for Refusing {
+    ghost down = { λ args ins. Err 7 };
+
+    ghost up = { λ args outs. Err 8 };
+}
+
+impl AskedDown for Refusing {
+    ghost may = { λ s args ins. ⊤ };
+
+    ghost gives = { λ s args ins r. Answers (Err 7) r };
+
+    fn ask_down(&self, _args: &Args, _ins: &[DownPort]) -> Result<DownPort, RuleFault> {
+        Err(RuleFault::Refused(7))
+    }
+}
+
+impl AskedUp for Refusing {
+    ghost may = { λ s args outs. ⊤ };
+
+    ghost gives = { λ s args outs r. Answers (Err 8) r };
+
+    fn ask_up(&self, _args: &Args, _outs: &[UpPort]) -> Result<UpPort, RuleFault> {
+        Err(RuleFault::Refused(8))
+    }
+}
+
+/// A rule that refuses all, in a box of its own.
+pub fn refusing_rule(alloc: Global) -> Result<Box<RefusingRule>, Memory> {
+    Ok(Box::new(alloc, Stored::new(Refusing, Refusing))?)
+}
+
+// The numbers with which a rule of these two sides refuses, 0 where it answers.
+fn refusals<S: Says, D: AskedDown, U: AskedUp>(alloc: Global, down: D, up: U) -> (u16, u16)
+    requires down { IsStated (D.may down) (D.gives down) S.down }
+    requires up { IsStated (U.may up) (U.gives up) S.up }
+{
+    let stored: Stored<S, D, U> = Stored::new(down, up);
+    let args = Items::new(alloc);
+    let down = match stored.down(&args, &[]) {
+        Err(RuleFault::Refused(number)) => number,
+        _ => 0,
+    };
+    let up = match stored.up(&args, &[]) {
+        Err(RuleFault::Refused(number)) => number,
+        _ => 0,
+    };
+    (down, up)
+}
+
+/// The numbers with which a rule of two closures refuses, which is stored and asked once each way.
+pub fn closed(alloc: Global) -> (u16, u16) {
+    refusals::<Refusing, _, _>(
+        alloc,
+        ByDown {
+            call: |_args: &Args, _ins: &[DownPort]| -> Result<DownPort, RuleFault> {
+                Err(RuleFault::Refused(7))
+            },
+        },
+        ByUp {
+            call: |_args: &Args, _outs: &[UpPort]| -> Result<UpPort, RuleFault> {
+                Err(RuleFault::Refused(8))
+            },
+        },
+    )
+}

@@ -1,6 +1,0 @@
-use Rattle.std.proofs.Common.{◌≡◌, ◌++◌, drop}
-use Rattle.soc_tests.specs.TestRules.{narrow_slaves}
-use Rattle.soc_tests.proofs.tests.narrow_slaves.Given as goal
-
-abbrev pub invariant-loop-slave : goal.invariant-loop-slave
-invariant-loop-slave l = l.narrow ++ narrow_slaves (drop l.slave-index l.slaves) ≡ narrow_slaves l.slaves

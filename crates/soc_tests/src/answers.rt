@@ -1,0 +1,107 @@
+ghost use Rattle.std.specs.Prelude.{◌<◌};
+
+use dip_io::{MemFiles, MemOut, RealFiles, RealOut};
+use dip_lists::{Bytes, Items, Memory};
+use dip_rule::Rules;
+use soc_report::Status;
+use soc_top::{soc, soc_by_standard_rules};
+use std::alloc::Global;
+use std::{io, str};
+
+/// What is to fail in a run in memory: the load and the put with these numbers, 0 for none.
+#[derive(Clone, Copy)]
+pub struct Failing {
+    pub load: u64,
+    pub put: u64,
+}
+
+/// A run in which nothing fails.
+pub const NOTHING: Failing = Failing { load: 0, put: 0 };
+
+/// A run in which the first load fails.
+pub const FIRST_LOAD: Failing = Failing { load: 1, put: 0 };
+
+/// How a run ended: its exit status, and what it printed.
+#[derive(Drop)]
+pub struct Answer {
+    pub code: u8,
+    pub printed: Bytes,
+}
+
+// The words of a line.
+fn words_of(alloc: Global, line: &str) -> Result<Vec<String>, Memory> {
+    let mut words = Vec::new(alloc);
+    for word in line.split(' ') {
+        if !word.is_empty() {
+            words.push(String::from_str(alloc, word)?)?;
+        }
+    }
+    Ok(words)
+}
+
+// The files of a run: `a.toml` alone.
+fn files_of(alloc: Global, file: &[u8], failing: &Failing) -> Result<MemFiles, Memory> {
+    let mut files = MemFiles::new(alloc);
+    files.fail_at(failing.load)?;
+    files.set("a.toml", file)?;
+    Ok(files)
+}
+
+// How much one put takes: one byte, where one is to fail.
+fn most(failing: &Failing) -> usize
+    ensures { 0 < result }
+{
+    if failing.put == 0 { 300 } else { 1 }
+}
+
+/// The answer to `map a.toml` on a file of these bytes.
+pub fn map(alloc: Global, file: &[u8], failing: &Failing) -> Result<Answer, Memory> {
+    let words = words_of(alloc, "map a.toml")?;
+    let mut files = files_of(alloc, file, failing)?;
+    let mut out = MemOut::new(alloc, most(failing));
+    out.fail_at(failing.put)?;
+    let status = soc_by_standard_rules(alloc, words.as_slice(), &mut files, &mut out)?;
+    Ok(Answer {
+        code: status.code(),
+        printed: Items::from_vec(Vec::from_slice(alloc, out.bytes())?),
+    })
+}
+
+/// The answer to `map a.toml` on a file of these bytes, by rules that are handed in.
+pub fn map_by(alloc: Global, file: &[u8], rules: &Rules) -> Result<Answer, Memory> {
+    let words = words_of(alloc, "map a.toml")?;
+    let mut files = files_of(alloc, file, &NOTHING)?;
+    let mut out = MemOut::new(alloc, 300);
+    let status = soc(alloc, words.as_slice(), &mut files, &mut out, rules);
+    Ok(Answer {
+        code: status.code(),
+        printed: Items::from_vec(Vec::from_slice(alloc, out.bytes())?),
+    })
+}
+
+/// Prints an answer: what was printed, and the exit status.
+pub fn print_answer(rt: &HostRuntime, answer: &Answer) -> io::Result<()> {
+    match str::from_utf8(answer.printed.as_slice()) {
+        Ok(text) => println!(rt; "{text}status {}", answer.code),
+        Err(_) => println!(rt; "no text"),
+    }
+}
+
+/// Prints the answer of a run that found memory.
+pub fn print_ended(rt: &HostRuntime, ended: Result<Answer, Memory>) -> io::Result<()> {
+    match ended {
+        Ok(answer) => print_answer(rt, &answer),
+        Err(Memory) => println!(rt; "no memory"),
+    }
+}
+
+/// Runs these words on files that lie where the program runs, and prints the exit status at the end.
+pub fn run_words(rt: &HostRuntime, line: &str) -> io::Result<()> {
+    let Ok(words) = words_of(rt.alloc(), line) else {
+        return println!(rt; "no memory");
+    };
+    let mut files = RealFiles::new(rt.clone()?);
+    let mut out = RealOut::new(rt.clone()?);
+    let ended = soc_by_standard_rules(rt.alloc(), words.as_slice(), &mut files, &mut out);
+    println!(rt; "status {}", ended.unwrap_or(Status::Memory).code())
+}

@@ -1,0 +1,33 @@
+//! Runs cases of `soc` by the standard rules, and prints how each ends.
+//!
+//! A line of the input is a title, which is printed (`# ..`), a line of the design file `a.toml` (`|..`),
+//! such a line so many times (`*N|..`, with its number in the place of `#` and the next in the place of
+//! `@`), or a command: `new` begins a design file, `keep` keeps it for changes, `pad N` fills it with line
+//! ends up to N bytes, `map` runs `map a.toml` on it, `change OLD|NEW` does so with a text of the kept one
+//! changed (`^` is a line end), `cuts` on each front of it, `puts` where each put fails in turn, `loads`
+//! where the first load fails, `given TEMPLATE DOWN UP` by a rule of the kind `given` besides, and `run ..`
+//! runs these words on the files that lie where this program runs. `tree` prints what the design file
+//! states and the map doesn't show.
+#![tactic(auto)]
+
+mod answers;
+mod lies;
+mod rules;
+mod script;
+mod tree;
+
+use crate::script::Script;
+use std::io;
+
+// Runs each line of the input.
+fn run(rt: &HostRuntime) -> io::Result<()> {
+    let mut script = Script::new(rt.alloc());
+    for line in rt.lines(rt.alloc()) {
+        script.run_line(rt, line?.as_str())?;
+    }
+    Ok(())
+}
+
+fn main(rt: HostRuntime) {
+    if let Ok(()) = run(&rt) {}
+}

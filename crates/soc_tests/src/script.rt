@@ -1,0 +1,221 @@
+use crate::answers::{FIRST_LOAD, Failing, NOTHING, map, print_answer, print_ended, run_words};
+use crate::lies::map_by_given;
+use crate::tree::show_tree;
+use dip_lists::{Items, Memory};
+use std::alloc::Global;
+use std::fmt::Write;
+use std::io;
+
+/// The design file that is being made, and the one that is kept for changes.
+#[derive(Drop)]
+pub struct Script {
+    alloc: Global,
+    file: String,
+    kept: String,
+}
+
+// Adds a part, with a number in the place of `#` and the next in the place of `@`.
+fn add_numbered(text: &mut String, number: u32, part: &str) -> Result<(), Memory> {
+    for letter in part.chars() {
+        match letter {
+            '#' => write!(text, "{number}")?,
+            '@' => write!(text, "{}", number.wrapping_add(1))?,
+            _ => text.push(letter)?,
+        }
+    }
+    text.push('\n')?;
+    Ok(())
+}
+
+// Adds a line so many times.
+fn add_each(text: &mut String, times: u32, part: &str) -> Result<(), Memory> {
+    for number in 0..times {
+        add_numbered(text, number, part)?;
+    }
+    Ok(())
+}
+
+// Adds a part with line ends in the place of `^`.
+fn add_unfolded(text: &mut String, part: &str) -> Result<(), Memory> {
+    for letter in part.chars() {
+        text.push(if letter == '^' { '\n' } else { letter })?;
+    }
+    Ok(())
+}
+
+// A text with these line ends.
+fn unfolded(alloc: Global, part: &str) -> Result<String, Memory> {
+    let mut text = String::new(alloc);
+    add_unfolded(&mut text, part)?;
+    Ok(text)
+}
+
+// A text with `new` in the place of the first `old`; the empty one where there is none.
+fn changed(alloc: Global, text: &str, old: &str, new: &str) -> Result<String, Memory> {
+    let mut made = String::new(alloc);
+    let old = unfolded(alloc, old)?;
+    if let Some((before, after)) = text.split_once(old.as_str()) {
+        made.push_str(before)?;
+        add_unfolded(&mut made, new)?;
+        made.push_str(after)?;
+    }
+    Ok(made)
+}
+
+// Prints the answer on each front of a file, with its length, where it is another than on the front before.
+fn show_cuts(rt: &HostRuntime, file: &[u8]) -> io::Result<()> {
+    let mut last = Items::new(rt.alloc());
+    for length in 0..=file.len() {
+        let Ok(answer) = map(rt.alloc(), &file[..length], &NOTHING) else {
+            return println!(rt; "no memory");
+        };
+        if answer.printed.as_slice() != last.as_slice() {
+            print!(rt; "{length} ")?;
+            print_answer(rt, &answer)?;
+            last = answer.printed;
+        }
+    }
+    Ok(())
+}
+
+// The first put whose failing isn't answered so: exit status 4, and what was due before it is printed.
+fn wrong_put(alloc: Global, file: &[u8], due: &[u8]) -> Result<Option<usize>, Memory> {
+    for count in 0..due.len() {
+        let failing = Failing {
+            load: 0,
+            put: count as u64 + 1,
+        };
+        let answer = map(alloc, file, &failing)?;
+        if answer.code != 4 || answer.printed.as_slice() != &due[..count] {
+            return Ok(Some(count));
+        }
+    }
+    Ok(None)
+}
+
+// Prints how the run on a file ends where each put of one byte fails in turn.
+fn show_puts(rt: &HostRuntime, file: &[u8]) -> io::Result<()> {
+    let Ok(answer) = map(rt.alloc(), file, &NOTHING) else {
+        return println!(rt; "no memory");
+    };
+    let due = answer.printed.as_slice();
+    match wrong_put(rt.alloc(), file, due) {
+        Ok(None) => println!(rt; "{} puts fail as they should", due.len()),
+        Ok(Some(count)) => println!(rt; "wrong after {count}"),
+        Err(Memory) => println!(rt; "no memory"),
+    }
+}
+
+impl Script {
+    /// No design file.
+    pub fn new(alloc: Global) -> Script {
+        Script {
+            alloc,
+            file: String::new(alloc),
+            kept: String::new(alloc),
+        }
+    }
+
+    // Adds a line to the design file.
+    fn add(&mut self, line: &str) -> Result<(), Memory> {
+        self.file.push_str(line)?;
+        self.file.push('\n')?;
+        Ok(())
+    }
+
+    // Adds the lines of `N|LINE`.
+    fn add_times(&mut self, argument: &str) -> Result<(), Memory> {
+        if let Some((times, line)) = argument.split_once('|') {
+            add_each(&mut self.file, times.parse::<u32>().unwrap_or(0), line)?;
+        }
+        Ok(())
+    }
+
+    // Fills the design file with line ends up to a size.
+    fn pad(&mut self, size: &str) -> Result<(), Memory> {
+        for _ in self.file.len()..size.parse::<usize>().unwrap_or(0) {
+            self.file.push('\n')?;
+        }
+        Ok(())
+    }
+
+    // Keeps the design file for changes.
+    fn keep(&mut self) -> Result<(), Memory> {
+        self.kept = String::from_str(self.alloc, self.file.as_str())?;
+        Ok(())
+    }
+
+    // Makes the kept design file with the change `OLD|NEW`.
+    fn change(&mut self, argument: &str) -> Result<(), Memory> {
+        let (old, new) = argument.split_once('|').unwrap_or((argument, ""));
+        self.file = changed(self.alloc, self.kept.as_str(), old, new)?;
+        Ok(())
+    }
+
+    // Prints the answer on the design file where these calls fail.
+    fn show(&self, rt: &HostRuntime, failing: &Failing) -> io::Result<()> {
+        print_ended(rt, map(self.alloc, self.file.as_bytes(), failing))
+    }
+
+    // Prints the answer on the design file by a rule that is handed in.
+    fn show_given(&self, rt: &HostRuntime, argument: &str) -> io::Result<()> {
+        print_ended(rt, map_by_given(self.alloc, self.file.as_bytes(), argument))
+    }
+
+    // Changes the design file as a line of the input says; answers what is then to be run, and on what.
+    fn edit<'a>(&mut self, line: &'a str) -> Result<(&'a str, &'a str), Memory> {
+        if let Some(line) = line.strip_prefix('|') {
+            self.add(line)?;
+            return Ok(("", ""));
+        }
+        if let Some(argument) = line.strip_prefix('*') {
+            self.add_times(argument)?;
+            return Ok(("", ""));
+        }
+        let (command, argument) = line.split_once(' ').unwrap_or((line, ""));
+        self.command(command, argument)
+    }
+
+    // Does a command that changes the design file; answers what is then to be run, and on what.
+    fn command<'a>(
+        &mut self,
+        command: &'a str,
+        argument: &'a str,
+    ) -> Result<(&'a str, &'a str), Memory> {
+        match command {
+            "new" => self.file.clear(),
+            "keep" => self.keep()?,
+            "pad" => self.pad(argument)?,
+            "change" => {
+                self.change(argument)?;
+                return Ok(("map", ""));
+            }
+            _ => return Ok((command, argument)),
+        }
+        Ok(("", ""))
+    }
+
+    // Runs what a command asks for.
+    fn run(&self, rt: &HostRuntime, command: &str, argument: &str) -> io::Result<()> {
+        match command {
+            "" => Ok(()),
+            "#" => println!(rt; "# {argument}"),
+            "map" => self.show(rt, &NOTHING),
+            "loads" => self.show(rt, &FIRST_LOAD),
+            "cuts" => show_cuts(rt, self.file.as_bytes()),
+            "puts" => show_puts(rt, self.file.as_bytes()),
+            "given" => self.show_given(rt, argument),
+            "tree" => show_tree(rt, self.file.as_bytes()),
+            "run" => run_words(rt, argument),
+            _ => println!(rt; "unknown: {command}"),
+        }
+    }
+
+    /// Does what a line of the input says.
+    pub fn run_line(&mut self, rt: &HostRuntime, line: &str) -> io::Result<()> {
+        match self.edit(line) {
+            Ok((command, argument)) => self.run(rt, command, argument),
+            Err(Memory) => println!(rt; "no memory"),
+        }
+    }
+}

@@ -1,0 +1,31 @@
+ghost use Rattle.std.specs.Prelude.{◌≡◌, IfErr, IfOk};
+ghost use Rattle.dip_io.specs.Outside.{SameContent};
+ghost use Rattle.tl_rules.specs.Standard.{standard};
+ghost use Rattle.soc_top.specs.Words.{words_of};
+ghost use Rattle.soc_top.specs.Answers.{Answered, Completed, world};
+
+use crate::top::soc;
+use dip_io::{Files, Out};
+use dip_lists::Memory;
+use soc_report::Status;
+use std::alloc::Global;
+use tl_rules::boxed_standard_rules;
+
+/// Does what `soc` does, by the rules of the standard kinds. The error is want of memory for these rules:
+/// nothing was loaded and nothing printed.
+pub fn soc_by_standard_rules<F: Files, O: Out>(
+    alloc: Global,
+    words: &[String],
+    files: &mut F,
+    out: &mut O,
+) -> Result<Status, Memory>
+    ensures files { SameContent (F.seen files.old) (F.seen files.new) }
+    ensures answered { IfOk result (λ status. Answered standard (words_of words.now) (world
+        (F.seen files.old) (O.seen out.old)) (world (F.seen files.new) (O.seen out.new)) status) }
+    ensures completed { IfOk result (λ status. Completed standard (words_of words.now) (world
+        (F.seen files.old) (O.seen out.old)) (world (F.seen files.new) (O.seen out.new)) status) }
+    ensures nothing { IfErr result (λ _. O.seen out.new ≡ O.seen out.old) }
+{
+    let rules = boxed_standard_rules!(alloc);
+    Ok(soc(alloc, words, files, out, &rules))
+}
