@@ -1,8 +1,8 @@
 -- The netlist of a finished builder: it is well formed, has no loop, and carries each wire's value.
-use Rattle.std.proofs.Common.{◌≡◌, ◌≢◌, ℕ, zero, suc, ◌+◌, ◌^◌, ◌<◌, ◌≤◌, inl, inr, false, ◌&&◌, cond, List, [], ◌∷◌, ◌++◌, length, map, take, Option, Some, None, is_none, refl, sym, ap, ◌∙◌, subst, arith}
+use Rattle.std.proofs.Common.{◌≡◌, ◌≢◌, ℕ, zero, suc, ◌+◌, ◌^◌, ◌<◌, ◌≤◌, inl, inr, false, ◌&&◌, cond, List, [], ◌∷◌, ◌++◌, length, map, take, get_or, Option, Some, None, is_none, refl, sym, ap, ◌∙◌, subst, arith}
 use Rattle.std.specs.Prelude.{slice_get, slice_index, codes, All, AllPairs}
 use Rattle.std.specs.List.{AllByRecursion, filter_map}
-use Rattle.std.proofs.lemmas.List.{length-map, length-take, get_or_past}
+use Rattle.std.proofs.lemmas.List.{length-append, length-map, length-take, get_or_append_left, get_or_past}
 use Rattle.std.proofs.lemmas.List.Elements.{All-map}
 use Rattle.std.proofs.lemmas.List.Kept.{AllPairs-cons}
 use Rattle.std.proofs.lemmas.Option.{slice_get_within, slice_get_cases, slice_get_past, get_or_from_slice_get}
@@ -24,8 +24,9 @@ use Rattle.net_build.specs.declared.types.Kind.{Kind}
 use Rattle.net_build.specs.declared.types.Kind.TheVariants.{Input, Register, Gate}
 use Rattle.net_build.specs.declared.types.Item.{Item}
 use Rattle.net_build.specs.declared.types.Made.{Made}
-use Rattle.net_build.specs.Built.{Built, inputs, is_register, is_undriven, items, names, port_of, port_of_kind, undriven, wire_widths}
-use Rattle.net_build.specs.Values.{Solves}
+use Rattle.net_build.specs.declared.types.Wire.{Wire}
+use Rattle.net_build.specs.Built.{Built, inputs, is_register, is_undriven, items, names, port_of, port_of_kind, undriven, wire_widths, IsInput}
+use Rattle.net_build.specs.Values.{HasInputs, Solves}
 use Rattle.net_build.specs.Sound.{Differ, IsWellBuilt}
 use Rattle.net_build.specs.Numbering.{AreNets, Resets, KeepsValues, netlist_by, at_wires, cell_of, cell_of_kind, wire_counts, finished, is_gate, is_input, net_among, net_at, net_of, next_of, out_of, reg_of, reg_of_kind, renamed}
 use Rattle.net_build.proofs.Cells.{cell_whole}
@@ -232,9 +233,56 @@ given_register b ins f v l c w m e k =
     ∙ c.given_ones (inputs_in b.made + regs_in (take w b.made)) (slice_get_within given _ (f y) g)
     ∙ get_or_from_slice_get given _ (f y) 0 g
 
+-- the name of an input, among those of all ports
+name_here : (b : Built) (k : ℕ) (d : List ℕ) (p : Port) → slice_get (inputs b) k ≡ Some p → get_or (names b) k d ≡ p.name
+name_here b k d p e =
+    let ns = map (λ (p : Port). p.name) (inputs b) in
+    let f = get_mapped (λ (p : Port). p.name) (inputs b) k p e in
+    get_or_append_left ns (map (λ (o : OutPort). o.name) b.outputs) d k (slice_get_within ns k p.name f) ∙ get_or_from_slice_get ns k p.name d f
+
+name_within : (b : Built) (k : ℕ) (p : Port) → slice_get (inputs b) k ≡ Some p → k < length (names b)
+name_within b k p e = omega (arith, slice_get_within (inputs b) k p e, length-map (inputs b) (λ (p : Port). p.name), length-append (map (λ (p : Port). p.name) (inputs b)) (map (λ (o : OutPort). o.name) b.outputs))
+
+-- inputs of one name are one
+same_place : (b : Built) → IsWellBuilt b → (k j : ℕ) (p q : Port) → slice_get (inputs b) k ≡ Some p → slice_get (inputs b) j ≡ Some q → p.name ≡ q.name → k ≡ j
+same_place b s k j p q e f n =
+    let h = pairs (names b) s.distinct in
+    elim (cases_lt k j) [
+      | inl l ↦ absurd (h k j [] l (name_within b j q f) (name_here b k [] p e ∙ n ∙ sym (name_here b j [] q f)))
+      | inr g ↦ elim (cases_lt j k) [
+        | inl l ↦ absurd (h j k [] l (name_within b k p e) (name_here b j [] q f ∙ sym n ∙ sym (name_here b k [] p e)))
+        | inr i ↦ omega arith
+      ]
+    ]
+
+-- an input's wire has the value that is given for it
+given_input : (b : Built) → IsWellBuilt b → (ins regs : List ℕ) (v : ℕ → ℕ) → length ins ≡ length (inputs b) → AreValues (finished b) (ins ++ regs) v → (k : ℕ) (p : Port) (w : Wire) → slice_get (inputs b) k ≡ Some p → IsInput b w p.name → at_wires b v w.number ≡ slice_index ins k
+given_input b s ins regs v l c k p w e f =
+    let m = mapped (λ (m : Made). m.item) b.made w.number _ f.at in
+    let j = inputs_in (take w.number b.made) in
+    let q : Port = record { name = p.name; width = w.width } in
+    let net : net_of b.made w.number ≡ j = ap (net_at b.made w.number) m.is ∙ ap (λ (i : Item). net_among (wire_counts b.made) (wire_counts (take w.number b.made)) i.kind) m.gives in
+    let h : slice_get (inputs b) j ≡ Some q = ap (λ ps. slice_get ps j) (inputs_picked b) ∙ placed (λ (m : Made). port_of m.item) (λ (m : Made). is_input m.item.kind) (λ m. input_test m.item.width m.item.kind) b.made w.number m.item q m.is (ap port_of m.gives) in
+    let same : k ≡ j = same_place b s k j p q e h refl in
+    let r : j < length ins = omega (arith, l, slice_get_within (inputs b) j q h) in
+    ap v net
+    ∙ c.given_ones j (omega (arith, r, length-append ins regs))
+    ∙ get_or_append_left ins regs 0 j r
+    ∙ ap (slice_index ins) (sym same)
+
+given_inputs : (b : Built) → IsWellBuilt b → (ins regs : List ℕ) (v : ℕ → ℕ) → length ins ≡ length (inputs b) → AreValues (finished b) (ins ++ regs) v → HasInputs b ins (at_wires b v)
+given_inputs b s ins regs v l c =
+    let p : Port = record { name = codes "reset"; width = 1 } in
+    let e : slice_get (inputs b) 0 ≡ Some p = placed port_of (λ (i : Item). is_input i.kind) (λ i. input_test i.width i.kind) (items b) 0 _ _ s.reset refl in
+    record {
+      reset = given_input b s ins regs v l c 0 p (record { number = 0; width = 1 }) e (record { at = s.reset });
+      each = given_input b s ins regs v l c;
+    }
+
 pub carried : (b : Built) → IsWellBuilt b → KeepsValues (finished b) b
 carried b s = record {
   solves = solved b s;
+  reads = given_inputs b s;
   starts = λ ins v l c. record {
     holds = λ w i e f.
         let m = mapped (λ (m : Made). m.item) b.made w i e in

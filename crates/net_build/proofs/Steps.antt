@@ -6,7 +6,7 @@ use Rattle.std.proofs.lemmas.Bool.{ne_eqb}
 use Rattle.std.proofs.lemmas.Option.{slice_get_within}
 use Rattle.std.proofs.Common.{◌≢◌, zero, suc, false, true, cond, get_or}
 use Rattle.net_build.specs.declared.types.Wire.{Wire}
-use Rattle.net_build.specs.Built.{Built, IsWire, IsBit, IsRegister, IsUndriven, items, undriven}
+use Rattle.net_build.specs.Built.{Built, IsWire, IsBit, IsInput, IsRegister, IsUndriven, items, undriven}
 use Rattle.net_build.specs.Values.{Means, Tells, Takes, Becomes, Later, Adds, Drives, Opens}
 use Rattle.net_build.specs.Sound.{HasNext, IsLowInReset}
 
@@ -57,6 +57,9 @@ bit_wire b x h = h.wire
 
 pub bit_made : (b : Built) (x : Wire) → IsWire b x → x.width ≡ 1 → IsBit b x
 bit_made b x h e = record { wire = h; one = e }
+
+pub input_later : (old new : Built) (x : Wire) (name : List ℕ) → Later old new → IsInput old x name → IsInput new x name
+input_later old new x name g h = record { at = g.keeps x.number _ h.at }
 
 pub register_later : (old new : Built) (x : Wire) → Later old new → IsRegister old x → IsRegister new x
 register_later old new x g h = record { at = g.keeps x.number _ h.at }

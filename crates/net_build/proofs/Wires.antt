@@ -13,7 +13,7 @@ use Rattle.net_build.specs.declared.types.Kind.TheVariants.{Input, Register, Gat
 use Rattle.net_build.specs.declared.types.Item.{Item}
 use Rattle.net_build.specs.declared.types.Made.{Made}
 use Rattle.net_build.specs.declared.types.Wire.{Wire}
-use Rattle.net_build.specs.Built.{Built, items, wire_widths, inputs, undriven, is_undriven, port_of, IsWire, IsBit, IsRegister, IsUndriven}
+use Rattle.net_build.specs.Built.{Built, items, wire_widths, inputs, undriven, is_undriven, port_of, IsWire, IsBit, IsInput, IsRegister, IsUndriven}
 use Rattle.net_build.specs.Values.{Means, Later, Adds, AddsInput, Opens}
 use Rattle.net_build.specs.Sound.{Makes}
 use Rattle.net_build.proofs.Lists.{get_last}
@@ -77,6 +77,13 @@ input_adds old new name width l m = record {
   undriven = ap (numbers_where is_undriven 0) m.made ∙ places_more is_undriven 0 old.made (record { item = record { width = width; kind = Input name }; next = None }) ∙ append-nil (undriven old);
 }
 
+pub made_input : (old new : Built) (name : List ℕ) (width : ℕ) (w : Wire) → Makes old new (record { width = width; kind = Input name }) → w ≡ record { number = length old.made; width = width } → IsInput new w name
+made_input old new name width w m e =
+    let i : Item = record { width = width; kind = Input name } in
+    let l : length (items old) ≡ length old.made = length-map old.made (λ (m : Made). m.item) in
+    let g : slice_get (items new) (length old.made) ≡ Some i = rw (items_made old new i m) (ap (slice_get (items old ++ i ∷ [])) (sym l) ∙ get_last (items old) i) in
+    rw e (record { at = g })
+
 pub register_opens : (old new : Built) (width : ℕ) (w : Wire) → Later old new → Makes old new (record { width = width; kind = Register }) → w ≡ record { number = length old.made; width = width } → Opens old new (w.number ∷ [])
 register_opens old new width w l m e = rw e (record {
   later = l;
@@ -105,3 +112,5 @@ pub register_number : (old : Built) (width : ℕ) (w : Wire) → w ≡ record { 
 register_number old width w e = ap (λ (w : Wire). w.number) e ∙ sym (length-map old.made (λ (m : Made). m.item))
 
 pub ruleset gates = (gate_adds, made_wire, gate_means)
+
+pub ruleset further_inputs = (input_adds, made_input, made_wire)

@@ -76,6 +76,10 @@ pub record IsBit (b : Built) (w : Wire) : Type 0 where
   pub wire : IsWire b w
   pub one : w.width ≡ 1
 
+-- the wire of the input with this name
+pub record IsInput (b : Built) (w : Wire) (name : List ℕ) : Type 0 where
+  pub at : slice_get (items b) w.number ≡ Some (record { width = w.width; kind = Input name })
+
 -- a register of the builder
 pub record IsRegister (b : Built) (w : Wire) : Type 0 where
   pub at : slice_get (items b) w.number ≡ Some (record { width = w.width; kind = Register })

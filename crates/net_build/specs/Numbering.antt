@@ -13,7 +13,7 @@ use Rattle.net_build.specs.declared.types.Kind.TheVariants.{Input, Register, Gat
 use Rattle.net_build.specs.declared.types.Made.{Made}
 use Rattle.net_build.specs.declared.finish.Counts.{Counts}
 use Rattle.net_build.specs.Built.{Built, inputs, is_register}
-use Rattle.net_build.specs.Values.{Solves, Ticks, AtStart}
+use Rattle.net_build.specs.Values.{Solves, Ticks, AtStart, HasInputs}
 
 -- whether a wire of this kind is an input
 abbrev pub is_input : Kind → Bool
@@ -112,10 +112,13 @@ finished b = netlist_by (net_of b.made) b
 abbrev pub at_wires : Built → (ℕ → ℕ) → ℕ → ℕ
 at_wires b v w = v (net_of b.made w)
 
--- Each wire keeps its value in the netlist: values of a cycle of the netlist are values that the wires may have; in
--- the first cycle the registers hold 0; from cycle to cycle each takes the value before it.
+-- Each wire keeps its value in the netlist: values of a cycle of the netlist are values that the wires may have; the
+-- wire of each input has the value that is given for it; in the first cycle the registers hold 0; from cycle to cycle
+-- each takes the value before it.
 pub record KeepsValues (n : Netlist) (b : Built) : Type 0 where
   pub solves : (given : List ℕ) (v : ℕ → ℕ) → AreValues n given v → Solves b (at_wires b v)
+  pub reads : (ins regs : List ℕ) (v : ℕ → ℕ) → length ins ≡ length n.inputs → AreValues n (ins ++ regs) v
+      → HasInputs b ins (at_wires b v)
   pub starts : (ins : List ℕ) (v : ℕ → ℕ) → length ins ≡ length n.inputs → AreValues n (ins ++ first_registers n) v
       → AtStart b (at_wires b v)
   pub ticks : (ins : List ℕ) (v u : ℕ → ℕ) → length ins ≡ length n.inputs → AreValues n (ins ++ next_registers n v) u

@@ -1,5 +1,5 @@
 -- What the wires of a builder may hold, and what a later builder keeps.
-use Rattle.std.specs.Prelude.{◌≡◌, ℕ, Bool, false, ◌==◌, not, List, ◌∷◌, [], ◌++◌, length, take, filter, Some, slice_get, if◌then◌else◌}
+use Rattle.std.specs.Prelude.{◌≡◌, ℕ, Bool, false, ◌==◌, not, List, ◌∷◌, [], ◌++◌, length, take, filter, Some, slice_get, slice_index, if◌then◌else◌}
 use Rattle.net_cells.specs.declared.netlist.CellOp.{CellOp}
 use Rattle.net_cells.specs.declared.netlist.Port.{Port}
 use Rattle.net_cells.specs.declared.netlist.OutPort.{OutPort}
@@ -9,7 +9,7 @@ use Rattle.net_build.specs.declared.types.Kind.TheVariants.{Register, Gate}
 use Rattle.net_build.specs.declared.types.Item.{Item}
 use Rattle.net_build.specs.declared.types.Made.{Made}
 use Rattle.net_build.specs.declared.types.Wire.{Wire}
-use Rattle.net_build.specs.Built.{Built, items, wire_widths, inputs, undriven}
+use Rattle.net_build.specs.Built.{Built, items, wire_widths, inputs, undriven, IsInput}
 
 -- Values that the wires may have in one cycle: each has its width, and each operator's equation holds.
 pub record Solves (b : Built) (v : ℕ → ℕ) : Type 0 where
@@ -20,6 +20,13 @@ pub record Solves (b : Built) (v : ℕ → ℕ) : Type 0 where
 -- Values of one cycle, and of the next: each register that is driven takes the value of the wire before it.
 pub record Ticks (b : Built) (v u : ℕ → ℕ) : Type 0 where
   pub takes : (n : ℕ) (m : Made) (d : ℕ) → slice_get b.made n ≡ Some m → m.next ≡ Some d → u n ≡ v d
+
+-- Values of a cycle in which the inputs have the values ins: wire 0, `reset`, has the first, and the wire of each
+-- input its own.
+pub record HasInputs (b : Built) (ins : List ℕ) (v : ℕ → ℕ) : Type 0 where
+  pub reset : v 0 ≡ slice_index ins 0
+  pub each : (k : ℕ) (p : Port) (w : Wire) → slice_get (inputs b) k ≡ Some p → IsInput b w p.name
+      → v w.number ≡ slice_index ins k
 
 -- Values of the first cycle: each register holds 0.
 pub record AtStart (b : Built) (v : ℕ → ℕ) : Type 0 where

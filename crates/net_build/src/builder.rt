@@ -3,7 +3,7 @@ ghost use Rattle.net_cells.specs.Loops.{HasNoLoop};
 ghost use Rattle.net_cells.specs.Rules.{IsCell, IsNamed, IsWellFormed, IsWidth};
 ghost use Rattle.net_build.specs.Numbering.{KeepsValues, Resets, finished};
 ghost use Rattle.net_cells.specs.Values.{op_value};
-ghost use Rattle.net_build.specs.Built.{Built, items, wire_widths, undriven, begun, IsWire, IsBit, IsUndriven, IsNewName};
+ghost use Rattle.net_build.specs.Built.{Built, items, wire_widths, undriven, begun, IsInput, IsWire, IsBit, IsUndriven, IsNewName};
 ghost use Rattle.net_build.specs.Sound.{Follows, HasNext, IsLowInReset, Makes};
 ghost use Rattle.net_build.specs.Values.{Means, Takes, Becomes, Later, Adds, AddsInput, AddsOutput, Opens, Drives};
 
@@ -82,12 +82,13 @@ impl Builder {
     }
 
     /// A further input.
-    #[tactic(auto, using(crate::proofs::Wires::input_adds, crate::proofs::Wires::made_wire))]
+    #[tactic(auto, using(crate::proofs::Wires::further_inputs))]
     pub fn input(&mut self, name: Name, width: u32) -> Result<Wire, Memory>
         requires name { IsNewName self.old name }
         requires width { IsWidth width }
         ensures adds { IfOk result
             (λ _. AddsInput self.old self.new (record { name = name; width = width })) }
+        ensures is { IfOk result (λ w. IsInput self.new w name) }
         ensures wire { IfOk result (λ w. IsWire self.new w × (w.width ≡ width)) }
     {
         let wire = self.make(width, Kind::Input(name))?;
