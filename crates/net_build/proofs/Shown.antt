@@ -47,6 +47,7 @@ output_adds b port = record {
     inputs = take_all (length (inputs b)) (inputs b) (omega arith);
     outputs = take-append_seam b.outputs (port ∷ []);
   };
+  made = refl;
   inputs = refl;
   outputs = refl;
   undriven = refl;

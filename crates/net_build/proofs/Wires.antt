@@ -72,6 +72,7 @@ part b x hi lo h o k = (h.has.0, subst (λ n. hi < n) (sym h.has.1) k, o, refl)
 pub input_adds : (old new : Built) (name : List ℕ) (width : ℕ) → Later old new → Makes old new (record { width = width; kind = Input name }) → AddsInput old new (record { name = name; width = width })
 input_adds old new name width l m = record {
   later = l;
+  made = m.made;
   inputs = inputs_made old new (record { width = width; kind = Input name }) m;
   outputs = m.outputs;
   undriven = ap (numbers_where is_undriven 0) m.made ∙ places_more is_undriven 0 old.made (record { item = record { width = width; kind = Input name }; next = None }) ∙ append-nil (undriven old);

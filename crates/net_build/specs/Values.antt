@@ -1,11 +1,11 @@
 -- What the wires of a builder may hold, and what a later builder keeps.
-use Rattle.std.specs.Prelude.{◌≡◌, ℕ, Bool, false, ◌==◌, not, List, ◌∷◌, [], ◌++◌, length, take, filter, Some, slice_get, slice_index, if◌then◌else◌}
+use Rattle.std.specs.Prelude.{◌≡◌, ℕ, Bool, false, ◌==◌, not, List, ◌∷◌, [], ◌++◌, length, take, filter, None, Some, slice_get, slice_index, if◌then◌else◌}
 use Rattle.net_cells.specs.declared.netlist.CellOp.{CellOp}
 use Rattle.net_cells.specs.declared.netlist.Port.{Port}
 use Rattle.net_cells.specs.declared.netlist.OutPort.{OutPort}
 use Rattle.net_cells.specs.Rules.{HasWidth}
 use Rattle.net_cells.specs.Values.{FitsAll, op_value}
-use Rattle.net_build.specs.declared.types.Kind.TheVariants.{Register, Gate}
+use Rattle.net_build.specs.declared.types.Kind.TheVariants.{Input, Register, Gate}
 use Rattle.net_build.specs.declared.types.Item.{Item}
 use Rattle.net_build.specs.declared.types.Made.{Made}
 use Rattle.net_build.specs.declared.types.Wire.{Wire}
@@ -84,16 +84,21 @@ pub record Drives (old new : Built) (register : ℕ) : Type 0 where
   pub outputs : new.outputs ≡ old.outputs
   pub undriven : undriven new ≡ filter (λ n. not (n == register)) (undriven old)
 
--- A later builder with one more input and no other port. Its further registers are driven.
+-- A later builder with one more input, and nothing else.
 pub record AddsInput (old new : Built) (port : Port) : Type 0 where
   pub later : Later old new
+  pub made : new.made ≡ old.made ++ record {
+    item = record { width = port.width; kind = Input port.name };
+    next = None;
+  } ∷ []
   pub inputs : inputs new ≡ inputs old ++ port ∷ []
   pub outputs : new.outputs ≡ old.outputs
   pub undriven : undriven new ≡ undriven old
 
--- A later builder with one more output and no other port. Its further registers are driven.
+-- A later builder with one more output, and nothing else.
 pub record AddsOutput (old new : Built) (port : OutPort) : Type 0 where
   pub later : Later old new
+  pub made : new.made ≡ old.made
   pub inputs : inputs new ≡ inputs old
   pub outputs : new.outputs ≡ old.outputs ++ port ∷ []
   pub undriven : undriven new ≡ undriven old
