@@ -12,3 +12,4 @@ pub mod Renamed
 pub mod Nets
 pub mod Gates
 pub mod Folded
+pub mod Opened
