@@ -13,3 +13,5 @@ pub mod Nets
 pub mod Gates
 pub mod Folded
 pub mod Opened
+pub mod OpenedLists
+pub mod DrivenLists

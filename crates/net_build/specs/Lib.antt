@@ -3,3 +3,4 @@ pub mod Values
 pub mod Sound
 pub mod Numbering
 pub mod Folds
+pub mod Registers

@@ -5,6 +5,7 @@ mod bits;
 mod builder;
 mod finish;
 mod folds;
+mod registers;
 mod types;
 
 pub use bits::{both, either, inverse, low};
