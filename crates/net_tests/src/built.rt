@@ -170,3 +170,27 @@ pub fn folds(alloc: Global) -> Result<Netlist, Memory> {
     add_folds(&mut builder, x, y)?;
     builder.finish()
 }
+
+// Two registers of 63 bits. The first takes a wire and the second the first, so that it shows the wire two
+// cycles late.
+fn delayed(builder: &mut Builder, x: Wire) -> Result<Wire, Memory>
+    requires wire { IsWire builder.old x }
+    requires width { x.width ≡ 63 }
+    ensures adds { IfOk result (λ _. Adds builder.old builder.new) }
+    ensures wire { IfOk result (λ w. IsWire builder.new w) }
+{
+    let held = builder.registers(&[63, 63])?;
+    let row = held.as_slice();
+    builder.drive_all(row, &[x, row[0]])?;
+    Ok(row[1])
+}
+
+/// A netlist whose output shows its input of 63 bits two cycles late.
+pub fn late(alloc: Global) -> Result<Netlist, Memory> {
+    let shown = name(alloc, "p_q")?;
+    let mut builder = Builder::new(alloc, name(alloc, "m_t")?)?;
+    let x = builder.input(name(alloc, "p_x")?, 63)?;
+    let y = delayed(&mut builder, x)?;
+    builder.output(shown, y)?;
+    builder.finish()
+}

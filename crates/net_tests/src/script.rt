@@ -98,7 +98,7 @@ impl Script {
     /// Takes a line of the input. `netlist NAME` begins the description of a netlist, to which `input`,
     /// `reg`, `cell` and `output` add. Then `formed` asks whether it is well formed, `width NET` how wide a
     /// net is, and `run CYCLES INPUTS` what its output shows after so many cycles; `op` asks for the value
-    /// of one cell, `chain` for that of many, and `counter`, `shown`, `operators` and `folds` about
+    /// of one cell, `chain` for that of many, and `counter`, `shown`, `late`, `operators` and `folds` about
     /// netlists that a builder made. Any other line is printed.
     pub fn take(&mut self, rt: &HostRuntime, line: &str) -> io::Result<()> {
         let alloc = rt.alloc();
@@ -113,6 +113,7 @@ impl Script {
             "chain" => show_run(rt, chain(alloc, number(rest)), "1 0"),
             "counter" => show_run(rt, built::counter(alloc), rest),
             "shown" => show_run(rt, built::shown(alloc), rest),
+            "late" => show_run(rt, built::late(alloc), rest),
             "operators" => show_formed(rt, built::operators(alloc)),
             "folds" => show_formed(rt, built::folds(alloc)),
             "" => Ok(()),
