@@ -1,4 +1,6 @@
-use crate::answers::{FIRST_LOAD, Failing, NOTHING, map, print_answer, print_ended, print_size, run_words};
+use crate::answers::{
+    FIRST_LOAD, Failing, NOTHING, map, print_answer, print_ended, print_size, run_words,
+};
 use crate::lies::{map_by_given, map_by_narrow};
 use crate::tree::show_tree;
 use dip_lists::{Items, Memory};
