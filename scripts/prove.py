@@ -32,13 +32,18 @@ class Unbuilt(Exception):
     """A crate wasn't proved or built: its name, and the file of what the kit said."""
 
 
-def crates_below(program):
-    """The crates of the repository that a program stands on and itself, each with those that it stands on, lowest first."""
+def stated_uses():
+    """What each crate of the repository stands on, those of the kit among them."""
     uses = {}
     for line in (TOP / "crates.txt").read_text(encoding="utf-8").splitlines():
         head, found, names = line.split("#")[0].partition(":")
         if found:
             uses[head.split()[0]] = names.split()
+    return uses
+
+
+def crates_below(program, uses):
+    """A program and the crates of the repository that it stands on, each with those that it stands on, lowest first."""
     order = {}
 
     def visit(crate):
@@ -61,8 +66,8 @@ def lanes_for(crates):
     return max(1, min(processors(), memory // MEMORY_OF_A_PROOF, len(crates)))
 
 
-def copied(lane, crates):
-    """The folder of a lane, with the sources of these crates as they stand now."""
+def copied(lane, crates, uses):
+    """The folder of a lane, with the sources of these crates alone, as they stand now."""
     folder = ROOM / f"lane{lane}"
     for crate in crates:
         for part in ("src", "specs", "proofs"):
@@ -70,8 +75,9 @@ def copied(lane, crates):
             shutil.rmtree(there, ignore_errors=True)
             if here.is_dir():
                 shutil.copytree(here, there)
-    for name in ("crates.txt", "HANDLES"):
-        shutil.copyfile(TOP / name, folder / name)
+    shutil.copyfile(TOP / "HANDLES", folder / "HANDLES")
+    lines = [f"{crate}: {' '.join(uses[crate])}\n" for crate in crates]
+    (folder / "crates.txt").write_text("".join(lines), encoding="utf-8")
     return folder
 
 
@@ -119,9 +125,9 @@ def stop(running):
         process.wait()
 
 
-def prove(libraries, lanes, teller, done):
-    """Proves all libraries, each when those below it are done. `done` fills with their names."""
-    idle, running, free = [copied(lane, libraries) for lane in range(lanes)], {}, processors()
+def prove(libraries, idle, teller, done):
+    """Proves all libraries in the idle lanes, each when those below it are done. `done` fills with their names."""
+    running, free = {}, processors()
     try:
         while len(done) < len(libraries):
             begun = {work.crate for work in running}
@@ -164,7 +170,8 @@ def build(teller):
 
 
 def main():
-    libraries = crates_below(PROGRAM)
+    uses = stated_uses()
+    libraries = crates_below(PROGRAM, uses)
     del libraries[PROGRAM]
     teller, done = Teller(len(libraries) + 1), []
     for number in (signal.SIGTERM, signal.SIGHUP):
@@ -175,7 +182,8 @@ def main():
     try:
         with open(ROOM.with_suffix(".lock"), "w", encoding="utf-8") as lock:
             fcntl.flock(lock, fcntl.LOCK_EX)
-            prove(libraries, lanes_for(libraries), teller, done)
+            lanes = [copied(lane, libraries, uses) for lane in range(lanes_for(libraries))]
+            prove(libraries, lanes, teller, done)
             build(teller)
             teller.end()
             shutil.rmtree(ROOM, ignore_errors=True)
