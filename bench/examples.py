@@ -6,6 +6,7 @@ stdout holds the maps that it must print: the same design files and maps as in e
 and the status is 1 where there is one.
 """
 
+import re
 import sys
 from pathlib import Path
 
@@ -14,17 +15,17 @@ CASES = Path("crates/soc_tests")
 
 
 def differences():
-    asked = (CASES / "stdin").read_text().splitlines()
-    printed = (CASES / "stdout").read_text()
+    """What differs: a copied design, or the answer that stands at the place of its run."""
+    runs = [line for line in (CASES / "stdin").read_text().splitlines() if line.startswith("run ")]
+    answers = re.findall(r"(?ms)^.*?^status \d+\n", (CASES / "stdout").read_text().partition("\n")[2])
     for design in sorted(EXAMPLES.glob("*.toml")):
-        copy = CASES / "data" / design.name
+        copy, run = CASES / "data" / design.name, f"run map {design.name}"
         if not copy.is_file() or copy.read_bytes() != design.read_bytes():
             yield f"{copy} isn't {design}"
-        if f"run map {design.name}" not in asked:
+        if run not in runs:
             yield f"{CASES}/stdin doesn't run {design.name}"
-        text = design.with_suffix(".map").read_text()
-        if f"{text}status 0\n" not in printed:
-            yield f"{CASES}/stdout hasn't {design.with_suffix('.map')}"
+        elif answers[runs.index(run)] != f"{design.with_suffix('.map').read_text()}status 0\n":
+            yield f"{CASES}/stdout hasn't {design.with_suffix('.map')} in its place"
 
 
 found = list(differences())

@@ -85,14 +85,17 @@ def measured(run):
 
 
 def table(costs, spans, whole):
+    """Minutes from the first process to the last, and processor minutes, of each kind of work that there is."""
+    kinds = [kind for kind in KINDS if any(kind == other for _, other in costs)]
     minutes = lambda seconds: f"{seconds / 60:.1f}" if seconds else ""
     took = lambda work: minutes(spans[work][1] - spans[work][0]) if work in spans else ""
-    lines = ["| Crate | Proof | of which processor | Tests | of which processor | Edits | of which processor | Processor in all |", "|---|" + "---|" * 7]
+    heads = ["Crate", *[head for kind in kinds for head in (kind.capitalize(), "processor")], "Processor in all"]
+    lines = [f"| {' | '.join(heads)} |", "|---" * len(heads) + "|"]
     for crate in sorted({name for name, _ in costs}):
-        cells = [cell for kind in KINDS for cell in (took((crate, kind)), minutes(costs[crate, kind]))]
-        lines.append(f"| `{crate}` | " + " | ".join([*cells, minutes(sum(costs[crate, kind] for kind in KINDS))]) + " |")
-    sums = [sum(seconds for (_, kind), seconds in costs.items() if kind == wanted) for wanted in KINDS]
-    lines.append("| all | " + " | ".join([cell for seconds in sums for cell in ("", minutes(seconds))] + [minutes(sum(sums))]) + " |")
+        cells = [cell for kind in kinds for cell in (took((crate, kind)), minutes(costs[crate, kind]))]
+        lines.append(f"| `{crate}` | {' | '.join([*cells, minutes(sum(costs[crate, kind] for kind in kinds))])} |")
+    sums = [sum(seconds for (_, kind), seconds in costs.items() if kind == wanted) for wanted in kinds]
+    lines.append(f"| all | {' | '.join([cell for seconds in sums for cell in ('', minutes(seconds))] + [minutes(sum(sums))])} |")
     return "\n".join([*lines, "", f"The whole: {whole / 60:.1f} minutes on {len(os.sched_getaffinity(0))} processors."])
 
 

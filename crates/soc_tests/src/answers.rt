@@ -95,6 +95,14 @@ pub fn print_ended(rt: &HostRuntime, ended: Result<Answer, Memory>) -> io::Resul
     }
 }
 
+/// Prints how long what was printed is, and the exit status.
+pub fn print_size(rt: &HostRuntime, ended: Result<Answer, Memory>) -> io::Result<()> {
+    match ended {
+        Ok(answer) => println!(rt; "{} bytes, status {}", answer.printed.len(), answer.code),
+        Err(Memory) => println!(rt; "no memory"),
+    }
+}
+
 /// Runs these words on files that lie where the program runs, and prints the exit status at the end.
 pub fn run_words(rt: &HostRuntime, line: &str) -> io::Result<()> {
     let Ok(words) = words_of(rt.alloc(), line) else {

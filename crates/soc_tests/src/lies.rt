@@ -1,6 +1,7 @@
 use crate::answers::{Answer, map_by};
+use crate::narrow::Narrow;
 use crate::rules::{Fixed, fixed_rule};
-use dip_lists::Memory;
+use dip_lists::{Items, Memory};
 use dip_rule::{Rule, RuleEntry, Rules};
 use dip_sets::Name;
 use std::alloc::Global;
@@ -15,14 +16,15 @@ fn template_named(name: &str) -> Template {
     }
 }
 
-// Adds a rule of the kind `given`.
-fn add_given(
+// Adds a rule of a kind.
+fn add_rule(
     alloc: Global,
     rules: &mut Rules,
+    kind: &str,
     template: Template,
     rule: Box<dyn Rule>,
 ) -> Result<(), Memory> {
-    let Some(kind) = Name::new(alloc, "given")? else {
+    let Some(kind) = Name::new(alloc, kind)? else {
         return Err(Memory);
     };
     rules.entries.push(RuleEntry {
@@ -41,7 +43,7 @@ fn answer_by(
 ) -> Result<Answer, Memory> {
     let rule: Box<dyn Rule> = Box::new(alloc, fixed)?;
     let mut rules = boxed_standard_rules!(alloc);
-    add_given(alloc, &mut rules, template, rule)?;
+    add_rule(alloc, &mut rules, "given", template, rule)?;
     map_by(alloc, file, &rules)
 }
 
@@ -51,4 +53,14 @@ pub fn map_by_given(alloc: Global, file: &[u8], argument: &str) -> Result<Answer
     let (down, up) = ports.split_once(' ').unwrap_or((ports, ""));
     let fixed = fixed_rule(alloc, down, up)?;
     answer_by(alloc, file, template_named(template), fixed)
+}
+
+/// The answer by one rule alone, of the kind `narrow`.
+pub fn map_by_narrow(alloc: Global, file: &[u8]) -> Result<Answer, Memory> {
+    let rule: Box<dyn Rule> = Box::new(alloc, Narrow { alloc })?;
+    let mut rules = Rules {
+        entries: Items::new(alloc),
+    };
+    add_rule(alloc, &mut rules, "narrow", Template::Buffer, rule)?;
+    map_by(alloc, file, &rules)
 }

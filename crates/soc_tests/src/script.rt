@@ -1,5 +1,7 @@
-use crate::answers::{FIRST_LOAD, Failing, NOTHING, map, print_answer, print_ended, run_words};
-use crate::lies::map_by_given;
+use crate::answers::{
+    FIRST_LOAD, Failing, NOTHING, map, print_answer, print_ended, print_size, run_words,
+};
+use crate::lies::{map_by_given, map_by_narrow};
 use crate::tree::show_tree;
 use dip_lists::{Items, Memory};
 use std::alloc::Global;
@@ -14,12 +16,14 @@ pub struct Script {
     kept: String,
 }
 
-// Adds a part, with a number in the place of `#` and the next in the place of `@`.
+// Adds a part, with a number in the place of `#`, the next in the place of `@`, and its hexadecimal digits in
+// the place of `$`.
 fn add_numbered(text: &mut String, number: u32, part: &str) -> Result<(), Memory> {
     for letter in part.chars() {
         match letter {
             '#' => write!(text, "{number}")?,
             '@' => write!(text, "{}", number.wrapping_add(1))?,
+            '$' => write!(text, "{number:x}")?,
             _ => text.push(letter)?,
         }
     }
@@ -205,6 +209,8 @@ impl Script {
             "cuts" => show_cuts(rt, self.file.as_bytes()),
             "puts" => show_puts(rt, self.file.as_bytes()),
             "given" => self.show_given(rt, argument),
+            "narrow" => print_ended(rt, map_by_narrow(self.alloc, self.file.as_bytes())),
+            "size" => print_size(rt, map(self.alloc, self.file.as_bytes(), &NOTHING)),
             "tree" => show_tree(rt, self.file.as_bytes()),
             "run" => run_words(rt, argument),
             _ => println!(rt; "unknown: {command}"),

@@ -28,7 +28,6 @@ module _ (rules : List StatedRule) where
     write_failed = λ e. (cc);
     refused = λ check subject e. (cc);
     done = λ e. (cc);
-    mapped = λ h. (cc);
     memory = λ e. (name, named);
     nothing = λ e. kept;
     line = λ a b k. absurd (k refl);
@@ -48,8 +47,7 @@ module _ (rules : List StatedRule) where
     read_failed = λ h. (cc);
     write_failed = λ h. (cc);
     refused = λ check subject h. (cc);
-    done = λ h. (name, bytes, l, sym f, p.whole (λ w. (cc)));
-    mapped = λ h. (name, bytes, l, m h);
+    done = λ h. (name, bytes, l, sym f, m h, p.whole (λ w. (cc)));
     memory = λ h. (cc);
     nothing = λ h. (cc);
     line = λ a b k. absurd (a r);
@@ -61,7 +59,6 @@ module _ (rules : List StatedRule) where
     write_failed = λ h. (cc);
     refused = λ check subject h. (name, bytes, l, sym f ∙ ap Some (same_failure failure check subject (sym r ∙ h)));
     done = λ h. (cc);
-    mapped = λ h. (cc);
     memory = λ h. (cc);
     nothing = λ h. (cc);
     line = λ a b k. rw r (p.whole b);
@@ -75,7 +72,6 @@ module _ (rules : List StatedRule) where
         write_failed = λ h. part.0;
         refused = λ check subject h. (cc);
         done = λ h. (cc);
-        mapped = λ h. (cc);
         memory = λ h. (cc);
         nothing = λ h. (cc);
         line = λ a b k. absurd (b r);
@@ -97,7 +93,6 @@ module _ (rules : List StatedRule) where
     write_failed = λ h. (cc);
     refused = λ check subject h. (cc);
     done = λ h. (cc);
-    mapped = λ h. (cc);
     memory = λ h. (cc);
     nothing = λ h. (cc);
     line = λ a b k. rw r (p.whole b);
@@ -111,7 +106,6 @@ module _ (rules : List StatedRule) where
         write_failed = λ h. part.0;
         refused = λ check subject h. (cc);
         done = λ h. (cc);
-        mapped = λ h. (cc);
         memory = λ h. (cc);
         nothing = λ h. (cc);
         line = λ a b k. absurd (b r);
@@ -150,7 +144,7 @@ module _ (rules : List StatedRule) where
       let d = a.done refl in
       let same : d.1 ≡ take most_loaded all = whole words before name d.0 d.1 all e t d.2 in
       let passes : first_failure rules (take most_loaded all) ≡ None = ap (first_failure rules) (sym same) ∙ d.3 in
-      inr (inr (rw passes refl, rw passes (rw same at d.4)))
+      inr (inr (rw passes refl, rw passes (rw same at d.5)))
   of_design words before after (Refused check subject) a name all e t no_load =
       let d = a.refused check subject refl in
       let same : d.1 ≡ take most_loaded all = whole words before name d.0 d.1 all e t d.2 in

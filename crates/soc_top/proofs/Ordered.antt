@@ -4,6 +4,7 @@ use Rattle.std.specs.Prelude.{All, nat_le}
 use Rattle.std.specs.List.{list_all}
 use Rattle.std.proofs.lemmas.List.Elements.{All-nil, All-cons, All-append}
 use Rattle.dip_lists.proofs.Pairs.{joined}
+use Rattle.dip_lists.proofs.Tests.{both}
 use Rattle.dip_lists.specs.First.{Check}
 use Rattle.dip_lists.specs.FirstLaw.{Precedes, HasRisingSubjects, AreInOrder}
 use Rattle.dip_lists.proofs.FirstFailures.{first_law}
@@ -15,10 +16,6 @@ use Rattle.soc_design.specs.Reading.{file_checks, stated_design}
 use Rattle.soc_design.proofs.Order.{file_order, lower_precede, numbers_low}
 use Rattle.soc_top.specs.Designs.{checks_of, all_checks, first_failure}
 use Rattle.soc_top.specs.FirstOfAll.{FirstOfAllLaw}
-
-both : (a b : Bool) → (a && b) ≡ true → (a ≡ true) × (b ≡ true)
-both true b h = (refl, h)
-both false b h = (cc)
 
 -- a test of all holds of each
 each : (test : Check → Bool) (P : Check → Type 0) → ((c : Check) → test c ≡ true → P c) → (checks : List Check) → list_all test checks ≡ true → All P checks

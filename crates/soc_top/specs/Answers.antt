@@ -49,9 +49,7 @@ pub record Answered (rules : List StatedRule) (words : List (List ℕ)) (before 
       × (first_failure rules bytes ≡ Some (failure_of check subject))
   pub done : result ≡ Done
       → (name bytes : List ℕ) × IsLoaded words before.files name bytes × (first_failure rules bytes ≡ None)
-      × Writes (map_of rules bytes) before.out after.out
-  pub mapped : result ≡ Done
-      → (name bytes : List ℕ) × IsLoaded words before.files name bytes × IsMapOf rules bytes (map_of rules bytes)
+      × IsMapOf rules bytes (map_of rules bytes) × Writes (map_of rules bytes) before.out after.out
   pub memory : result ≡ Memory → (name : List ℕ) × (design_named words ≡ Some name)
   -- what was printed
   pub nothing : result ≡ Memory → after.out.written ≡ before.out.written

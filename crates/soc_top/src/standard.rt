@@ -25,6 +25,7 @@ pub fn soc_by_standard_rules<F: Files, O: Out>(
     ensures completed { IfOk result (λ status. Completed standard (words_of words.now) (world
         (F.seen files.old) (O.seen out.old)) (world (F.seen files.new) (O.seen out.new)) status) }
     ensures nothing { IfErr result (λ _. O.seen out.new ≡ O.seen out.old) }
+    ensures unasked { IfErr result (λ _. F.seen files.new ≡ F.seen files.old) }
 {
     let rules = boxed_standard_rules!(alloc);
     Ok(soc(alloc, words, files, out, &rules))

@@ -5,7 +5,7 @@ use Rattle.std.proofs.lemmas.Bool.{leb-true, leb-false, ltb-true, ltb-false, cas
 use Rattle.std.proofs.lemmas.Bool.Decides.{Decides-eqb}
 use Rattle.dip_sets.specs.SizeRanges.{SizeRange, size_range, is_size_range, IsSizePair, HasSize, has_size, is_within, meet, no_sizes}
 use Rattle.dip_sets.proofs.Powers.{power_pos}
-use Rattle.dip_sets.proofs.Ranges.{size_pair_is, range_cases, has_size_is, within_is}
+use Rattle.dip_sets.proofs.Ranges.{size_pair_is, range_cases, has_size_is, within_is, least_power}
 use Rattle.tl_params.specs.Arguments.{AreFragments}
 use Rattle.tl_rules.specs.Fragments.{cut, widened}
 use Rattle.tl_params.specs.Carried.{fits_pieces}
@@ -25,12 +25,6 @@ small_sizes s piece bytes = elim (nat_le (max s.min 1) (min s.max piece)) as (λ
         λ ((power, lower, upper), small). absurd (omega (arith, power_pos bytes power, leb-false (max s.min 1) (min s.max piece) e)),
       )
     ] refl
-
-least_power : (a b : ℕ) → IsPowerOfTwo a → IsPowerOfTwo b → IsPowerOfTwo (min a b)
-least_power a b p q = elim (cases_lt a b) [
-  | inl lt ↦ let e : min a b ≡ a = omega arith in rw e p
-  | inr ge ↦ let e : min a b ≡ b = omega arith in rw e q
-]
 
 or_right : (a b : Bool) → IsTrue b → IsTrue (a || b)
 or_right true b h = refl

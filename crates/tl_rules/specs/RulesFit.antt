@@ -1,4 +1,5 @@
--- The standard rules and what is built belong together: the ports that a rule answers fit its template.
+-- The standard rules and what is built belong together: the ports that a rule answers fit its template, where the bus
+-- below a width adapter has an allowed width and a piece of a fragmenter at least one beat.
 use Rattle.std.specs.Prelude.{ℕ, ◌≡◌, ◌≤◌, List, [], ◌∷◌, map, ◌&&◌, IsTrue, Some, Ok}
 use Rattle.dip_sets.specs.SizeRanges.{SizeRange}
 use Rattle.tl_params.specs.declared.ops.Template.TheVariants.{Buffer, Width, Fragmenter, Shrinker}
