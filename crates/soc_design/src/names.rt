@@ -7,7 +7,6 @@ ghost use Rattle.soc_design.specs.Stated as spec;
 ghost use Rattle.soc_design.specs.Standing.{IsTree, IsWithinLimits};
 ghost use Rattle.dip_graph.specs.Faults.{IsFaultAt, IsFaultOf};
 ghost use Rattle.soc_design.specs.Reading as reading;
-ghost use Rattle.soc_design.specs.Reading.{failing, unnamed_modules, unnamed_nodes, bind_is_unnamed};
 
 use crate::limits::{Heading, LimitedFile};
 use crate::nodes::{LimitedNode, LimitedNodes};
@@ -93,19 +92,22 @@ fn top_module(alloc: Global, top: &Name) -> Result<NamedModules, Memory>
     Ok(NamedModules { names, tree })
 }
 
-// The top module and those that some tables state, the first of which is entry 1.
-fn modules_of(alloc: Global, top: &Name, modules: &[Value]) -> Result<NamedModules, Fault>
-    requires { length modules.now ≤ 255 }
-    ensures names { IfOk result (λ stated. stated.names ≡ top.now ∷ spec.names_at (items_view modules.now)) }
-    ensures tree { IfOk result (λ stated. spec.modules_of top.now (items_view modules.now) ≡ Some
-        stated.tree) }
-    ensures some { IfOk result (λ stated. 1 ≤ length stated.names) }
-    ensures few { IfOk result (λ stated. length stated.names ≤ 256) }
-    ensures counted { IfOk result (λ stated. length stated.tree ≡ length stated.names) }
-    ensures parents { IfOk result (λ stated. IsTree stated.tree) }
-    ensures passes { IfOk result (λ _. first (unnamed_modules top.now (items_view modules.now)) ≡ None) }
-    ensures err { IfErr result (IsFaultAt 4 (unnamed_modules top.now (items_view modules.now))) }
+// The modules of a file, in a design named `top`.
+fn stated_modules(alloc: Global, top: &Name, table: &Table) -> Result<NamedModules, Fault>
+    requires { reading.count (reading.modules_in (table_view table.now)) ≤ 255 }
+    ensures names { IfOk result (λ modules. modules.names ≡ reading.module_names top.now
+        (table_view table.now)) }
+    ensures tree { IfOk result (λ modules. reading.stated_modules top.now (table_view table.now) ≡ Some
+        modules.tree) }
+    ensures some { IfOk result (λ modules. 1 ≤ length modules.names) }
+    ensures few { IfOk result (λ modules. length modules.names ≤ 256) }
+    ensures counted { IfOk result (λ modules. length modules.tree ≡ length modules.names) }
+    ensures parents { IfOk result (λ modules. IsTree modules.tree) }
+    ensures passes { IfOk result (λ _. first (reading.unnamed_modules_in top.now (table_view table.now)) ≡
+        None) }
+    ensures err { IfErr result (IsFaultAt 4 (reading.unnamed_modules_in top.now (table_view table.now))) }
 {
+    let modules = tables_in(table, "module");
     let NamedModules {
         mut names,
         mut tree,
@@ -136,34 +138,35 @@ fn module_of(modules: &Names, value: &Value) -> Option<u32>
     module_under(modules, table, "module")
 }
 
-// The nodes of some tables in their modules, the first of which is the entry `entry`; `limited` is what the
-// tables state besides.
-fn nodes_of(
+// The nodes of a file in named modules; `limited` is what their tables state besides.
+fn stated_nodes(
     alloc: Global,
     modules: &Names,
     limited: LimitedNodes,
-    tables: &[Value],
-    entry: u64,
+    table: &Table,
 ) -> Result<NamedNodes, Fault>
     requires some { 1 ≤ length modules.now }
     requires few { length modules.now ≤ 256 }
-    requires entries { entry + length tables.now < 2 ^ 64 }
-    requires limited { spec.all_of spec.node_of (items_view tables.now) ≡ Some limited }
+    requires limited { spec.all_of spec.node_of (reading.nodes_in (table_view table.now)) ≡ Some limited }
     requires within { All (λ node. IsWithinLimits node.kind) limited }
-    ensures names { IfOk result (λ stated. stated.names ≡ spec.names_at (items_view tables.now)) }
-    ensures nodes { IfOk result (λ stated. spec.all_of (spec.placed_node modules.now)
-        (items_view tables.now) ≡ Some stated.nodes) }
-    ensures counted { IfOk result (λ stated. length stated.nodes ≡ length tables.now) }
-    ensures within { IfOk result (λ stated. All (λ node. IsWithinLimits node.kind) stated.nodes) }
-    ensures placed { IfOk result (λ stated. All (λ node. node.«module» < length modules.now) stated.nodes) }
-    ensures passes { IfOk result (λ _. first (unnamed_nodes modules.now entry (items_view tables.now)) ≡
+    ensures names { IfOk result (λ nodes. nodes.names ≡ reading.node_names (table_view table.now)) }
+    ensures nodes { IfOk result (λ nodes. reading.stated_nodes modules.now (table_view table.now) ≡ Some
+        nodes.nodes) }
+    ensures counted { IfOk result (λ nodes. length nodes.nodes ≡ reading.count
+        (reading.nodes_in (table_view table.now))) }
+    ensures within { IfOk result (λ nodes. All (λ node. IsWithinLimits node.kind) nodes.nodes) }
+    ensures placed { IfOk result (λ nodes. All (λ node. node.«module» < length modules.now) nodes.nodes) }
+    ensures passes { IfOk result (λ _. first (reading.unnamed_nodes_in modules.now (table_view table.now)) ≡
         None) }
-    ensures err { IfErr result (IsFaultAt 4 (unnamed_nodes modules.now entry (items_view tables.now))) }
+    ensures err { IfErr result (IsFaultAt 4 (reading.unnamed_nodes_in modules.now
+        (table_view table.now))) }
 {
+    let tables = tables_in(table, "node");
+    let entry = first_node(table);
     let mut limited = limited.into_vec().into_iter();
     let mut names = Names::new(alloc);
     let mut nodes = Items::new(alloc);
-    for (place, table) in tables.iter().enumerate() {
+    for (place, value) in tables.iter().enumerate() {
         let Some(node) = limited.next() else {
             unreachable!();
         };
@@ -174,7 +177,7 @@ fn nodes_of(
         if names.has(node.name.as_str()) {
             return Err(unnamed);
         }
-        let Some(module) = module_of(modules, table) else {
+        let Some(module) = module_of(modules, value) else {
             return Err(unnamed);
         };
         names.add(node.name.as_str())?;
@@ -233,83 +236,6 @@ fn bind_of(names: &Names, value: &Value) -> Option<BindEntry>
     Some(BindEntry { to, from, star })
 }
 
-// The binds that some tables state between named nodes, the first of which is the entry `entry`.
-fn binds_of(alloc: Global, names: &Names, binds: &[Value], entry: u64) -> Result<Binds, Fault>
-    requires few { length names.now ≤ 256 }
-    requires entries { entry + length binds.now < 2 ^ 64 }
-    ensures ok { IfOk result (λ stated. spec.all_of (spec.bind_of names.now) (items_view binds.now) ≡ Some
-        stated) }
-    ensures counted { IfOk result (λ stated. length stated ≡ length binds.now) }
-    ensures within { IfOk result (λ stated. All (λ bind. (bind.to < length names.now) × (bind.from < length
-        names.now)) stated) }
-    ensures passes { IfOk result (λ _. first (failing (bind_is_unnamed names.now) 0 entry
-        (items_view binds.now)) ≡ None) }
-    ensures err { IfErr result (IsFaultAt 4 (failing (bind_is_unnamed names.now) 0 entry
-        (items_view binds.now))) }
-{
-    let mut stated = Items::new(alloc);
-    for (place, bind) in binds.iter().enumerate() {
-        let Some(bind) = bind_of(names, bind) else {
-            return Err(Fault::Check {
-                number: 4,
-                subject: entry + place as u64,
-            });
-        };
-        stated.push(bind)?;
-    }
-    Ok(stated)
-}
-
-// The modules of a file, in a design named `top`.
-fn stated_modules(alloc: Global, top: &Name, table: &Table) -> Result<NamedModules, Fault>
-    requires { reading.count (reading.modules_in (table_view table.now)) ≤ 255 }
-    ensures names { IfOk result (λ modules. modules.names ≡ reading.module_names top.now
-        (table_view table.now)) }
-    ensures tree { IfOk result (λ modules. reading.stated_modules top.now (table_view table.now) ≡ Some
-        modules.tree) }
-    ensures some { IfOk result (λ modules. 1 ≤ length modules.names) }
-    ensures few { IfOk result (λ modules. length modules.names ≤ 256) }
-    ensures counted { IfOk result (λ modules. length modules.tree ≡ length modules.names) }
-    ensures parents { IfOk result (λ modules. IsTree modules.tree) }
-    ensures passes { IfOk result (λ _. first (reading.unnamed_modules_in top.now (table_view table.now)) ≡
-        None) }
-    ensures err { IfErr result (IsFaultAt 4 (reading.unnamed_modules_in top.now (table_view table.now))) }
-{
-    modules_of(alloc, top, tables_in(table, "module"))
-}
-
-// The nodes of a file in named modules; `limited` is what their tables state besides.
-fn stated_nodes(
-    alloc: Global,
-    modules: &Names,
-    limited: LimitedNodes,
-    table: &Table,
-) -> Result<NamedNodes, Fault>
-    requires some { 1 ≤ length modules.now }
-    requires few { length modules.now ≤ 256 }
-    requires limited { spec.all_of spec.node_of (reading.nodes_in (table_view table.now)) ≡ Some limited }
-    requires within { All (λ node. IsWithinLimits node.kind) limited }
-    ensures names { IfOk result (λ nodes. nodes.names ≡ reading.node_names (table_view table.now)) }
-    ensures nodes { IfOk result (λ nodes. reading.stated_nodes modules.now (table_view table.now) ≡ Some
-        nodes.nodes) }
-    ensures counted { IfOk result (λ nodes. length nodes.nodes ≡ reading.count
-        (reading.nodes_in (table_view table.now))) }
-    ensures within { IfOk result (λ nodes. All (λ node. IsWithinLimits node.kind) nodes.nodes) }
-    ensures placed { IfOk result (λ nodes. All (λ node. node.«module» < length modules.now) nodes.nodes) }
-    ensures passes { IfOk result (λ _. first (reading.unnamed_nodes_in modules.now (table_view table.now)) ≡
-        None) }
-    ensures err { IfErr result (IsFaultAt 4 (reading.unnamed_nodes_in modules.now
-        (table_view table.now))) }
-{
-    nodes_of(
-        alloc,
-        modules,
-        limited,
-        tables_in(table, "node"),
-        first_node(table),
-    )
-}
-
 // The binds of a file between named nodes.
 fn stated_binds(alloc: Global, names: &Names, table: &Table) -> Result<Binds, Fault>
     requires { length names.now ≤ 256 }
@@ -323,7 +249,19 @@ fn stated_binds(alloc: Global, names: &Names, table: &Table) -> Result<Binds, Fa
         None) }
     ensures err { IfErr result (IsFaultAt 4 (reading.unnamed_binds_in names.now (table_view table.now))) }
 {
-    binds_of(alloc, names, tables_in(table, "bind"), first_bind(table))
+    let tables = tables_in(table, "bind");
+    let entry = first_bind(table);
+    let mut stated = Items::new(alloc);
+    for (place, bind) in tables.iter().enumerate() {
+        let Some(bind) = bind_of(names, bind) else {
+            return Err(Fault::Check {
+                number: 4,
+                subject: entry + place as u64,
+            });
+        };
+        stated.push(bind)?;
+    }
+    Ok(stated)
 }
 
 /// The design of a file within the limits; `Fault::Check` names check 4 and the first module with an earlier

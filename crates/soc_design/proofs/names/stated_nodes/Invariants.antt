@@ -2,12 +2,12 @@ use Rattle.std.proofs.Common.{◌≡◌, ◌<◌, ◌+◌, ◌++◌, Some, drop,
 use Rattle.std.specs.Prelude.{All}
 use Rattle.std.specs.Option.{option_map}
 use Rattle.std.specs.Vec.Iter.{into_iter_items, into_iter_len}
-use Rattle.toml.specs.View.{items_view}
+use Rattle.toml.specs.View.{table_view, items_view}
 use Rattle.dip_lists.specs.First.{first}
 use Rattle.soc_design.specs.Stated.{all_of, node_of, placed_node, names_at}
 use Rattle.soc_design.specs.Standing.{IsWithinLimits}
-use Rattle.soc_design.specs.Reading.{failing, node_is_unnamed}
-use Rattle.soc_design.proofs.names.nodes_of.Given as goal
+use Rattle.soc_design.specs.Reading.{failing, node_is_unnamed, stated_nodes, unnamed_nodes_in}
+use Rattle.soc_design.proofs.names.stated_nodes.Given as goal
 
 abbrev pub invariant-loop-place : goal.invariant-loop-place
 invariant-loop-place l =
@@ -21,8 +21,8 @@ invariant-loop-place l =
       placed : All (λ node. node.«module» < length l.modules) l.nodes;
       stated :
           option_map (λ rest. l.nodes ++ rest) (all_of (placed_node l.modules) (items_view (drop l.place l.tables)))
-          ≡ all_of (placed_node l.modules) (items_view l.tables);
+          ≡ stated_nodes l.modules (table_view l.table);
       passes :
           first (failing (node_is_unnamed l.modules (names_at (items_view l.tables))) l.place (l.entry + l.place) (items_view (drop l.place l.tables)))
-          ≡ first (failing (node_is_unnamed l.modules (names_at (items_view l.tables))) 0 l.entry (items_view l.tables));
+          ≡ first (unnamed_nodes_in l.modules (table_view l.table));
     }
