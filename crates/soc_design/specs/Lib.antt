@@ -1,3 +1,4 @@
+pub mod Limits
 pub mod Shape
 pub mod Stated
 pub mod Reading

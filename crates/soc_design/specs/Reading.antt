@@ -13,6 +13,8 @@ use Rattle.dip_graph.specs.declared.design.ModuleEntry.{ModuleEntry}
 use Rattle.dip_graph.specs.declared.design.NodeEntry.{NodeEntry}
 use Rattle.dip_graph.specs.declared.design.BindEntry.{BindEntry}
 use Rattle.soc_design.specs.declared.limits.Heading.{Heading}
+pub use Rattle.soc_design.specs.Limits.{most_bytes}
+use Rattle.soc_design.specs.Limits.{most_modules, most_nodes, most_binds}
 use Rattle.soc_design.specs.Shape.{top_has_shape, module_has_shape, node_has_shape, bind_has_shape}
 use Rattle.soc_design.specs.Stated.{all_of, heading_of, node_of, placed_node, name_at, names_at}
 use Rattle.soc_design.specs.Stated.{module_at, modules_of, module_of, bind_of}
@@ -70,18 +72,6 @@ shape_checks ms =
     ∷ []
 
 -- ---- check 3: the limits
-
--- the most modules besides the top one
-abbrev pub most_modules : ℕ
-most_modules = 255
-
--- the most nodes
-abbrev pub most_nodes : ℕ
-most_nodes = 256
-
--- the most binds
-abbrev pub most_binds : ℕ
-most_binds = 1024
 
 -- a file of another version, or without nodes
 abbrev pub top_is_beyond : Members → Bool
@@ -181,10 +171,6 @@ name_checks ms = named_checks (heading_name (heading_of ms)) ms
 -- the checks 2 to 4 of a tree
 abbrev pub tree_checks : Members → List Check
 tree_checks ms = shape_checks ms ++ limit_checks ms ++ name_checks ms
-
--- the most bytes of a design file
-abbrev pub most_bytes : ℕ
-most_bytes = 1048576
 
 -- the tree of a text that isn't too long and that `toml` takes
 abbrev pub tree_of : List ℕ → Option Members

@@ -4,6 +4,7 @@ use Rattle.dip_graph.specs.declared.design.ModuleEntry.{ModuleEntry}
 use Rattle.dip_graph.specs.declared.design.NodeKind.{NodeKind}
 use Rattle.dip_graph.specs.declared.design.NodeKind.TheVariants.{Source, Sink, Ruled}
 use Rattle.tl_params.specs.Arguments.{is_width}
+use Rattle.soc_design.specs.Limits.{most_args}
 
 -- modules of which the first one has this number: the parent of each has a lower number than its own
 abbrev pub HaveEarlierParents : ℕ → List ModuleEntry → Type 0
@@ -23,4 +24,4 @@ IsUpTo64 n = (1 ≤ n) × (n ≤ 64)
 abbrev pub IsWithinLimits : NodeKind → Type 0
 IsWithinLimits (Source ports ids emits) = IsUpTo64 ports × IsUpTo64 ids
 IsWithinLimits (Sink beat ports supports) = IsTrue (is_width beat) × IsUpTo64 (length ports)
-IsWithinLimits (Ruled kind args) = length args ≤ 8
+IsWithinLimits (Ruled kind args) = length args ≤ most_args

@@ -1,5 +1,5 @@
 -- What the tables of a design file state, where their numbers are within the limits and their names are known.
-use Rattle.std.specs.Prelude.{ℕ, ℤ, ◌+◌, ◌-◌, ◌^◌, List, [], ◌∷◌, length, take, codes, ◌&&◌, ◌==◌, cond}
+use Rattle.std.specs.Prelude.{ℕ, ℤ, ◌+◌, List, [], ◌∷◌, length, take, codes, ◌&&◌, ◌==◌, cond}
 use Rattle.std.specs.Prelude.{nat_le, bit_and, Option, Some, None, unwrap_or, position}
 use Rattle.std.specs.List.{list_any}
 use Rattle.std.specs.Option.{option_and_then, option_map}
@@ -20,6 +20,8 @@ use Rattle.dip_graph.specs.declared.design.Star.TheVariants.{One, FromStar, ToSt
 use Rattle.tl_params.specs.Arguments.{is_width}
 use Rattle.toml_shape.specs.Shapes.{integer_of, text_of, pair_of, number_within}
 use Rattle.toml_shape.specs.Shapes.{table_under, text_under, name_under, number_under}
+use Rattle.soc_design.specs.Limits.{most_transfer, most_atomic, most_address, most_sets, most_ports, most_source_ids}
+use Rattle.soc_design.specs.Limits.{most_beat, most_arg, most_args}
 use Rattle.soc_design.specs.declared.limits.Heading.{Heading}
 use Rattle.soc_design.specs.declared.nodes.LimitedNode.{LimitedNode}
 
@@ -43,14 +45,6 @@ abbrev pub of_length : {A : Type 0} → ℕ → ℕ → List A → Option (List 
 of_length least most xs = cond (nat_le least (length xs) && nat_le (length xs) most) (Some xs) None
 
 -- ---- sizes of transfers, in bytes
-
--- the greatest transfer
-abbrev pub most_transfer : ℕ
-most_transfer = 256
-
--- the greatest transfer of an atomic operation
-abbrev pub most_atomic : ℕ
-most_atomic = 8
 
 -- the sizes from a least to a greatest one: powers of two in order
 abbrev pub stated_range : ℕ → ℕ → Option SizeRange
@@ -93,34 +87,34 @@ operations_under key ms = option_and_then operations_in (table_under key ms)
 
 -- ---- addresses
 
--- a base and a mask below 2^48 without a common bit
+-- a base and a mask within their limit and without a common bit
 abbrev pub set_of_pair : ℤ × ℤ → Option Pattern
 set_of_pair p =
     option_and_then (λ base. option_and_then (λ mask.
     cond (bit_and base mask == 0) (Some (record { base = base; mask = mask })) None)
-    (number_within 0 (2 ^ 48 - 1) p.1)) (number_within 0 (2 ^ 48 - 1) p.0)
+    (number_within 0 most_address p.1)) (number_within 0 most_address p.0)
 
 -- the address set of an array of two integers
 abbrev pub set_of : Data → Option Pattern
 set_of d = option_and_then set_of_pair (pair_of d)
 
--- 1 to 16 sets
+-- at least one set, and no more than a port may have
 abbrev pub stated_sets : Data → Option (List Pattern)
-stated_sets (array ds) = option_and_then (of_length 1 16) (all_of set_of ds)
+stated_sets (array ds) = option_and_then (of_length 1 most_sets) (all_of set_of ds)
 stated_sets d = None
 
--- 1 to 64 ports
+-- at least one port, and no more than a sink may have
 abbrev pub stated_ports : Option Data → Option (List (List Pattern))
-stated_ports (Some (array ds)) = option_and_then (of_length 1 64) (all_of stated_sets ds)
+stated_ports (Some (array ds)) = option_and_then (of_length 1 most_ports) (all_of stated_sets ds)
 stated_ports (Some d) = None
 stated_ports None = None
 
 -- ---- nodes
 
--- 1 to 64, 1 where it is missing
+-- from 1 to the most that a source may have, 1 where it is missing
 abbrev pub port_count_of : Option Data → Option ℕ
 port_count_of None = Some 1
-port_count_of (Some d) = option_and_then (number_within 1 64) (integer_of d)
+port_count_of (Some d) = option_and_then (number_within 1 most_ports) (integer_of d)
 
 -- the ports of a source
 abbrev pub port_count_in : Members → Option ℕ
@@ -131,7 +125,7 @@ abbrev pub source_of : Members → Option NodeKind
 source_of ms =
     option_and_then (λ ports. option_and_then (λ ids. option_map (λ emits. Source ports ids emits)
     (operations_under (codes "emits") ms))
-    (number_under (codes "ids") 1 64 ms))
+    (number_under (codes "ids") 1 most_source_ids ms))
     (port_count_in ms)
 
 -- a number that a bus may have as its bytes
@@ -140,7 +134,7 @@ stated_beat n = cond (is_width n) (Some n) None
 
 -- the bytes of a bus that stand under a key
 abbrev pub beat_under : List ℕ → Members → Option ℕ
-beat_under key ms = option_and_then stated_beat (number_under key 1 8 ms)
+beat_under key ms = option_and_then stated_beat (number_under key 1 most_beat ms)
 
 -- a sink
 abbrev pub sink_of : Members → Option NodeKind
@@ -150,14 +144,14 @@ sink_of ms =
     (stated_ports (get_member (codes "addresses") ms)))
     (beat_under (codes "beat") ms)
 
--- an argument: an integer below 2^32
+-- an argument: an integer within its limit
 abbrev pub arg_of : Data → Option ℕ
-arg_of d = option_and_then (number_within 0 (2 ^ 32 - 1)) (integer_of d)
+arg_of d = option_and_then (number_within 0 most_arg) (integer_of d)
 
--- at most 8 arguments, none where they are missing
+-- no more arguments than a node may have, none where they are missing
 abbrev pub args_of : Option Data → Option (List ℕ)
 args_of None = Some []
-args_of (Some (array ds)) = option_and_then (of_length 0 8) (all_of arg_of ds)
+args_of (Some (array ds)) = option_and_then (of_length 0 most_args) (all_of arg_of ds)
 args_of (Some d) = None
 
 -- a node of a kind that a rule is for

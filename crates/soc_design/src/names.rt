@@ -1,5 +1,5 @@
-ghost use Rattle.std.specs.Prelude.{◌≡◌, ◌≤◌, ◌<◌, ◌^◌, ◌+◌, [], ◌∷◌, length, false, All, IfOk, IfErr, IfSome, None, Some};
-ghost use Rattle.toml.specs.View.{table_view, view, items_view};
+ghost use Rattle.std.specs.Prelude.{◌≡◌, ◌≤◌, ◌<◌, [], ◌∷◌, length, false, All, IfOk, IfErr, IfSome, None, Some};
+ghost use Rattle.toml.specs.View.{table_view, view};
 ghost use Rattle.std.specs.List.{list_any};
 ghost use Rattle.std.specs.Str.{bytes_eq};
 ghost use Rattle.dip_lists.specs.First.{first, first_failing};

@@ -3,7 +3,8 @@ use Rattle.std.proofs.lemmas.List.Elements.{All-push}
 use Rattle.soc_design.specs.declared.nodes.LimitedNode.{LimitedNode}
 use Rattle.soc_design.specs.Standing.{IsWithinLimits}
 use Rattle.soc_design.specs.Stated as spec
-use Rattle.soc_design.specs.Reading.{node_is_beyond, most_nodes}
+use Rattle.soc_design.specs.Limits.{most_nodes}
+use Rattle.soc_design.specs.Reading.{node_is_beyond}
 use Rattle.soc_design.proofs.Failing.{passes}
 use Rattle.soc_design.proofs.Stating.{states_more, within, one_more}
 use Rattle.soc_design.proofs.limits.limited_nodes.Goals as goal

@@ -4,7 +4,7 @@ use Rattle.std.proofs.lemmas.Bool.Decides.{nat_tests}
 use Rattle.std.proofs.lemmas.Str.{IsUtf8-from_is_utf8, is_utf8-from_IsUtf8}
 use Rattle.toml.specs.Data.{Members}
 use Rattle.toml.specs.Parse.{parse_document}
-use Rattle.soc_design.specs.Reading.{most_bytes}
+use Rattle.soc_design.specs.Limits.{most_bytes}
 use Rattle.soc_design.proofs.read.tree_of.Goals as goal
 
 no_text : (short : Bool) (text : Bool) (tree : Option Members) → text ≡ false → None ≡ (if short && text then tree else None)
