@@ -1,5 +1,6 @@
 -- What every design that a file states has, besides the counts of its parts.
-use Rattle.std.specs.Prelude.{ℕ, ◌≡◌, ◌<◌, ◌≤◌, ◌+◌, List, [], ◌∷◌, length, IsTrue}
+use Rattle.std.specs.Prelude.{ℕ, ◌≡◌, ◌<◌, ◌≤◌, ◌+◌, List, [], ◌∷◌, length, All, IsTrue}
+use Rattle.dip_graph.specs.declared.design.Design.{Design}
 use Rattle.dip_graph.specs.declared.design.ModuleEntry.{ModuleEntry}
 use Rattle.dip_graph.specs.declared.design.NodeKind.{NodeKind}
 use Rattle.dip_graph.specs.declared.design.NodeKind.TheVariants.{Source, Sink, Ruled}
@@ -25,3 +26,12 @@ abbrev pub IsWithinLimits : NodeKind → Type 0
 IsWithinLimits (Source ports ids emits) = IsUpTo64 ports × IsUpTo64 ids
 IsWithinLimits (Sink beat ports supports) = IsTrue (is_width beat) × IsUpTo64 (length ports)
 IsWithinLimits (Ruled kind args) = length args ≤ most_args
+
+-- At most 256 modules, which are a tree; nodes within the limits, each in one of the modules; and binds, each from one
+-- of the nodes to one of them.
+pub record IsStanding (design : Design) : Type 0 where
+  pub modules : length design.modules ≤ 256
+  pub parents : IsTree design.modules
+  pub within : All (λ node. IsWithinLimits node.kind) design.nodes
+  pub placed : All (λ node. node.«module» < length design.modules) design.nodes
+  pub bound : All (λ bind. (bind.to < length design.nodes) × (bind.from < length design.nodes)) design.binds

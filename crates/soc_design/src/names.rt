@@ -4,7 +4,7 @@ ghost use Rattle.std.specs.List.{list_any};
 ghost use Rattle.std.specs.Str.{bytes_eq};
 ghost use Rattle.dip_lists.specs.First.{first, first_failing};
 ghost use Rattle.soc_design.specs.Stated as spec;
-ghost use Rattle.soc_design.specs.Standing.{IsTree, IsWithinLimits};
+ghost use Rattle.soc_design.specs.Standing.{IsTree, IsStanding, IsWithinLimits};
 ghost use Rattle.dip_graph.specs.Faults.{IsFaultAt, IsFaultOf};
 ghost use Rattle.soc_design.specs.Reading as reading;
 
@@ -274,17 +274,11 @@ pub fn named_design(alloc: Global, file: LimitedFile, table: &Table) -> Result<D
     requires few_nodes { reading.count (reading.nodes_in (table_view table.now)) ≤ 256 }
     ensures ok { IfOk result (λ design. reading.design_with (table_view table.now) file.heading ≡ Some
         design) }
-    ensures modules { IfOk result (λ design. length design.modules ≤ 256) }
-    ensures parents { IfOk result (λ design. IsTree design.modules) }
+    ensures stands { IfOk result IsStanding }
     ensures nodes { IfOk result (λ design. length design.nodes ≡ reading.count
         (reading.nodes_in (table_view table.now))) }
     ensures binds { IfOk result (λ design. length design.binds ≡ reading.count
         (reading.binds_in (table_view table.now))) }
-    ensures within { IfOk result (λ design. All (λ node. IsWithinLimits node.kind) design.nodes) }
-    ensures placed { IfOk result (λ design. All (λ node. node.«module» < length design.modules)
-        design.nodes) }
-    ensures bound { IfOk result (λ design. All (λ bind. (bind.to < length design.nodes) × (bind.from < length
-        design.nodes)) design.binds) }
     ensures passes { IfOk result (λ _. first_failing (reading.named_checks file.heading.name
         (table_view table.now)) ≡ None) }
     ensures err { IfErr result (IsFaultOf (first_failing (reading.named_checks file.heading.name
