@@ -2,6 +2,8 @@
 use Rattle.std.specs.Prelude.{ℕ, List, [], ◌∷◌, codes, Bool, true, false, ◌&&◌, cond, Option, Some, None, is_some}
 use Rattle.std.specs.Str.{bytes_eq}
 use Rattle.toml.specs.Data.{Data, array, table, Items, no_items, item, Members, no_members, member, get_member}
+use Rattle.soc_design.specs.declared.shape.Part.{Part}
+use Rattle.soc_design.specs.declared.shape.Part.TheVariants.{Module, Node, Bind}
 use Rattle.toml_shape.specs.Shapes.{keys_among, pair_of, name_under, integer_under, tables_under}
 use Rattle.toml_shape.specs.Shapes.{is_integer, is_short_name, is_one_of, has, may_have}
 
@@ -151,3 +153,9 @@ bind_has_shape (table ms) =
     keys_among bind_keys ms && is_some (name_under (codes "to") ms) && is_some (name_under (codes "from") ms)
     && may_have (is_one_of bind_kinds) (get_member (codes "kind") ms)
 bind_has_shape d = false
+
+-- the shape of a module, a node or a bind
+abbrev pub part_has_shape : Part → Data → Bool
+part_has_shape Module d = module_has_shape d
+part_has_shape Node d = node_has_shape d
+part_has_shape Bind d = bind_has_shape d

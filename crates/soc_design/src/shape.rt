@@ -14,6 +14,14 @@ use toml_shape::{
     tables_under, under,
 };
 
+/// What the tables of an array of the top table are.
+#[derive(Clone, Copy)]
+enum Part {
+    Module,
+    Node,
+    Bind,
+}
+
 // The keys of the top table, of a module, of nodes by their kinds, of a bind, and of the sizes of operations.
 const TOP_KEYS: [&str; 6] = ["version", "name", "policy", "module", "node", "bind"];
 
@@ -220,41 +228,25 @@ fn bind_has_shape(value: &Value) -> bool
         && may_have_text(table, "kind", &[":=", ":=*", ":*="])
 }
 
-// The first of some modules that hasn't its shape; the first one is entry 1.
-fn misshapen_module(modules: &[Value]) -> Option<u64>
-    ensures { result ≡ first (failing (λ place d. not (spec.module_has_shape d)) 0 1
-        (items_view modules.now)) }
+// Whether a value has the shape of a module, a node or a bind.
+fn part_has_shape(part: Part, value: &Value) -> bool
+    ensures { result ≡ spec.part_has_shape part (view value.now) }
 {
-    for (place, module) in modules.iter().enumerate() {
-        if !module_has_shape(module) {
-            return Some(1 + place as u64);
-        }
+    match part {
+        Part::Module => module_has_shape(value),
+        Part::Node => node_has_shape(value),
+        Part::Bind => bind_has_shape(value),
     }
-    None
 }
 
-// The first of some nodes that hasn't its shape, where the first one is the entry `entry`.
-fn misshapen_node(nodes: &[Value], entry: u64) -> Option<u64>
-    requires { entry + length nodes.now < 2 ^ 64 }
-    ensures { result ≡ first (failing (λ place d. not (spec.node_has_shape d)) 0 entry
-        (items_view nodes.now)) }
+// The first of some modules, nodes or binds that hasn't its shape, where the first one is the entry `entry`.
+fn first_misshapen(part: Part, tables: &[Value], entry: u64) -> Option<u64>
+    requires { entry + length tables.now < 2 ^ 64 }
+    ensures { result ≡ first (failing (λ place d. not (spec.part_has_shape part d)) 0 entry
+        (items_view tables.now)) }
 {
-    for (place, node) in nodes.iter().enumerate() {
-        if !node_has_shape(node) {
-            return Some(entry + place as u64);
-        }
-    }
-    None
-}
-
-// The first of some binds that hasn't its shape, where the first one is the entry `entry`.
-fn misshapen_bind(binds: &[Value], entry: u64) -> Option<u64>
-    requires { entry + length binds.now < 2 ^ 64 }
-    ensures { result ≡ first (failing (λ place d. not (spec.bind_has_shape d)) 0 entry
-        (items_view binds.now)) }
-{
-    for (place, bind) in binds.iter().enumerate() {
-        if !bind_has_shape(bind) {
+    for (place, value) in tables.iter().enumerate() {
+        if !part_has_shape(part, value) {
             return Some(entry + place as u64);
         }
     }
@@ -268,11 +260,11 @@ pub fn misshapen_entry(table: &Table) -> Option<u64>
     if !top_has_shape(table) {
         return Some(0);
     }
-    if let Some(entry) = misshapen_module(tables_in(table, "module")) {
+    if let Some(entry) = first_misshapen(Part::Module, tables_in(table, "module"), 1) {
         return Some(entry);
     }
-    if let Some(entry) = misshapen_node(tables_in(table, "node"), first_node(table)) {
+    if let Some(entry) = first_misshapen(Part::Node, tables_in(table, "node"), first_node(table)) {
         return Some(entry);
     }
-    misshapen_bind(tables_in(table, "bind"), first_bind(table))
+    first_misshapen(Part::Bind, tables_in(table, "bind"), first_bind(table))
 }
