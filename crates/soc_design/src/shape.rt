@@ -260,11 +260,13 @@ pub fn misshapen_entry(table: &Table) -> Option<u64>
     if !top_has_shape(table) {
         return Some(0);
     }
+    let node_entry = first_node(table);
+    let bind_entry = first_bind(table);
     if let Some(entry) = first_misshapen(Part::Module, tables_in(table, "module"), 1) {
         return Some(entry);
     }
-    if let Some(entry) = first_misshapen(Part::Node, tables_in(table, "node"), first_node(table)) {
+    if let Some(entry) = first_misshapen(Part::Node, tables_in(table, "node"), node_entry) {
         return Some(entry);
     }
-    first_misshapen(Part::Bind, tables_in(table, "bind"), first_bind(table))
+    first_misshapen(Part::Bind, tables_in(table, "bind"), bind_entry)
 }

@@ -39,11 +39,11 @@ pub returns-in-Some-first_misshapen : goal.returns-in-Some-first_misshapen
 returns-in-Some-first_misshapen c =
     at_nodes _ _ _ _ _ (sym c.if-not-top_has_shape.ensures)
     (first_of_part Module 1 1 _ _ _ c.first_misshapen.ensures refl c.tables_in.ensures ∙ c.in_default.is)
-    (first_of_part Node _ _ _ _ _ c.first_misshapen-2.ensures c.first_node.ensures.value c.tables_in-2.ensures ∙ c.in-Some-first_misshapen.is)
+    (first_of_part Node _ _ _ _ _ c.first_misshapen-2.ensures c.first_node-node_entry.ensures.value c.tables_in-2.ensures ∙ c.in-Some-first_misshapen.is)
 
 pub returns : goal.returns
 returns c =
     at_binds _ _ _ _ _ (sym c.if-not-top_has_shape.ensures)
     (first_of_part Module 1 1 _ _ _ c.first_misshapen.ensures refl c.tables_in.ensures ∙ c.in_default.is)
-    (first_of_part Node _ _ _ _ _ c.first_misshapen-2.ensures c.first_node.ensures.value c.tables_in-2.ensures ∙ c.in_default-first_misshapen.is)
-    (first_of_part Bind _ _ _ _ _ c.first_misshapen-3.ensures c.first_bind.ensures.value c.tables_in-3.ensures)
+    (first_of_part Node _ _ _ _ _ c.first_misshapen-2.ensures c.first_node-node_entry.ensures.value c.tables_in-2.ensures ∙ c.in_default-first_misshapen.is)
+    (first_of_part Bind _ _ _ _ _ c.first_misshapen-3.ensures c.first_bind-bind_entry.ensures.value c.tables_in-3.ensures)
