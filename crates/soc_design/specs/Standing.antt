@@ -1,4 +1,4 @@
--- What every design that a file states has, besides the counts of its parts.
+-- What every design that a file states has, besides the counts of its nodes and binds.
 use Rattle.std.specs.Prelude.{ℕ, ◌≡◌, ◌<◌, ◌≤◌, ◌+◌, List, [], ◌∷◌, length, All, IsTrue}
 use Rattle.dip_graph.specs.declared.design.Design.{Design}
 use Rattle.dip_graph.specs.declared.design.ModuleEntry.{ModuleEntry}
