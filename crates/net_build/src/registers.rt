@@ -8,12 +8,13 @@ use crate::types::{Wire, Wires};
 use dip_lists::{Items, Memory};
 
 impl Builder {
-    /// A register for each of these widths, in their order. Each is to be driven before the builder is
-    /// finished.
-    #[tactic(auto, using(crate::proofs::OpenedLists::opens_none))]
+    /// A register for each of these widths, in their order, no two the same. Each is to be driven before the
+    /// builder is finished.
+    #[tactic(auto, using(crate::proofs::OpenedLists::opens_none, crate::proofs::OpenedLists::opened_distinct))]
     pub fn registers(&mut self, widths: &[u32]) -> Result<Wires, Memory>
         requires { All IsWidth widths.now }
         ensures opens { IfOk result (λ ws. Opens self.old self.new (numbers ws)) }
+        ensures distinct { IfOk result AreDistinct }
         ensures long { IfOk result (λ ws. length ws ≡ length widths.now) }
         ensures wires { IfOk result (λ ws. AreWires self.new widths.now ws) }
         ensures undriven { IfOk result (λ ws. AreUndriven self.new ws) }

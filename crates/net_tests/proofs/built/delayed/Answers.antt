@@ -4,7 +4,6 @@ use Rattle.net_build.specs.Built.{Built, IsWire}
 use Rattle.net_build.specs.Registers.{AreDistinct, AreUndriven, AreWires, DrivesAll, MayDrive, numbers}
 use Rattle.net_build.specs.Values.{Later, Opens}
 use Rattle.net_build.proofs.DrivenLists.{opened_all_driven}
-use Rattle.net_build.proofs.OpenedLists.{opened_distinct}
 use Rattle.net_build.proofs.Steps.{wire_later, wire_opens}
 use Rattle.net_tests.proofs.built.delayed.Goals as goal
 
@@ -40,7 +39,7 @@ row_wire old new d row held e g l h =
     wire_later old new (get_or row 1 d) g ((wires_row old (63 ∷ 63 ∷ []) row held e h).each 1 d (omega (arith, k))).0
 
 pub drive_all-requires-clause-distinct : goal.drive_all-requires-clause-distinct
-drive_all-requires-clause-distinct c = subst AreDistinct (sym c.as_slice-row.ensures) (opened_distinct _ _ c.in_ok-held.held c.in_ok-held.ensures.opens)
+drive_all-requires-clause-distinct c = subst AreDistinct (sym c.as_slice-row.ensures) c.in_ok-held.ensures.distinct
 
 pub drive_all-requires-clause-undriven : goal.drive_all-requires-clause-undriven
 drive_all-requires-clause-undriven c = waiting_row _ _ _ c.as_slice-row.ensures c.in_ok-held.ensures.undriven
