@@ -84,5 +84,5 @@ apart_right [] ys h = h
 apart_right (x ∷ xs) ys h = apart_right xs ys h.1
 
 -- registers that were opened together are distinct
-pub opened_distinct : (old new : Built) (ws : List Wire) → Opens old new (numbers ws) → AreDistinct ws
-opened_distinct old new ws g = record { pairs = λ k j d l b. apart_at ws k j d (apart_right (undriven old) (numbers ws) (opened_apart old new (numbers ws) g)) l b }
+pub all_distinct : (old new : Built) (ws : List Wire) → Opens old new (numbers ws) → AreDistinct ws
+all_distinct old new ws g = record { pairs = λ k j d l b. apart_at ws k j d (apart_right (undriven old) (numbers ws) (opened_apart old new (numbers ws) g)) l b }

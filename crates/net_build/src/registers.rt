@@ -10,7 +10,7 @@ use dip_lists::{Items, Memory};
 impl Builder {
     /// A register for each of these widths, in their order, no two the same. Each is to be driven before the
     /// builder is finished.
-    #[tactic(auto, using(crate::proofs::OpenedLists::opens_none, crate::proofs::OpenedLists::opened_distinct))]
+    #[tactic(auto, using(crate::proofs::OpenedLists::opens_none, crate::proofs::OpenedLists::all_distinct))]
     pub fn registers(&mut self, widths: &[u32]) -> Result<Wires, Memory>
         requires { All IsWidth widths.now }
         ensures opens { IfOk result (λ ws. Opens self.old self.new (numbers ws)) }
