@@ -2,5 +2,4 @@ pub mod Limits
 pub mod Shape
 pub mod Stated
 pub mod Reading
-pub mod Standing
 pub mod Order

@@ -14,7 +14,7 @@ use Rattle.dip_graph.specs.declared.design.NodeEntry.{NodeEntry}
 use Rattle.dip_graph.specs.declared.design.BindEntry.{BindEntry}
 use Rattle.soc_design.specs.declared.limits.Heading.{Heading}
 pub use Rattle.soc_design.specs.Limits.{most_bytes}
-use Rattle.soc_design.specs.Limits.{most_modules, most_nodes, most_binds}
+use Rattle.dip_graph.specs.Limits.{most_modules, most_nodes, most_binds}
 use Rattle.soc_design.specs.Shape.{top_has_shape, module_has_shape, node_has_shape, bind_has_shape}
 use Rattle.soc_design.specs.Stated.{all_of, heading_of, node_of, placed_node, name_at, names_at}
 use Rattle.soc_design.specs.Stated.{module_at, modules_of, module_of, bind_of}

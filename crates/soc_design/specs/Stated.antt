@@ -20,8 +20,8 @@ use Rattle.dip_graph.specs.declared.design.Star.TheVariants.{One, FromStar, ToSt
 use Rattle.tl_params.specs.Arguments.{is_width}
 use Rattle.toml_shape.specs.Shapes.{integer_of, text_of, pair_of, number_within}
 use Rattle.toml_shape.specs.Shapes.{table_under, text_under, name_under, number_under}
-use Rattle.soc_design.specs.Limits.{most_transfer, most_atomic, most_address, most_sets, most_ports, most_source_ids}
-use Rattle.soc_design.specs.Limits.{most_beat, most_arg, most_args}
+use Rattle.dip_graph.specs.Limits.{most_atomic, most_sets, most_ports, most_source_ids, most_args}
+use Rattle.soc_design.specs.Limits.{most_transfer, most_address, most_beat, most_arg}
 use Rattle.soc_design.specs.declared.limits.Heading.{Heading}
 use Rattle.soc_design.specs.declared.nodes.LimitedNode.{LimitedNode}
 

@@ -2,7 +2,6 @@ ghost use Rattle.std.specs.Prelude.{◌≡◌, ◌≤◌, ◌<◌, ◌^◌, ◌+
 ghost use Rattle.toml.specs.View.{table_view, items_view};
 ghost use Rattle.dip_lists.specs.First.{first, first_failing};
 ghost use Rattle.soc_design.specs.Stated as spec;
-ghost use Rattle.soc_design.specs.Standing.{IsWithinLimits};
 ghost use Rattle.dip_graph.specs.Faults.{IsFaultAt, IsFaultOf};
 ghost use Rattle.soc_design.specs.Reading.{count, modules_in, nodes_in, binds_in, failing, at_top};
 ghost use Rattle.soc_design.specs.Reading.{top_is_beyond, is_past, node_is_beyond, limit_checks};
@@ -10,20 +9,13 @@ ghost use Rattle.soc_design.specs.Reading.{beyond_modules, beyond_nodes, beyond_
 
 use crate::nodes::{LimitedNodes, node_of};
 use crate::tables::{first_bind, first_node, named, tables_in};
-use dip_graph::Fault;
+use dip_graph::{Fault, MOST_BINDS, MOST_MODULES, MOST_NODES};
 use dip_lists::{Items, Memory};
 use dip_sets::Name;
 use std::alloc::Global;
 use tl_params::Policy;
 use toml::{Table, Value};
 use toml_shape::{name_under, number_under, under};
-
-/// The most modules of a design besides the top one.
-const MOST_MODULES: usize = 255;
-/// The most nodes of a design.
-const MOST_NODES: usize = 256;
-/// The most binds of a design.
-const MOST_BINDS: usize = 1024;
 
 /// What the top table of a design file states besides its arrays.
 #[derive(Drop)]
@@ -41,7 +33,6 @@ fn limited_nodes(alloc: Global, nodes: &[Value], entry: u64) -> Result<LimitedNo
     ensures passes { IfOk result (λ _. first (failing node_is_beyond 0 entry (items_view nodes.now)) ≡ None) }
     ensures few { IfOk result (λ _. length nodes.now ≤ 256) }
     ensures counted { IfOk result (λ stated. length stated ≡ length nodes.now) }
-    ensures within { IfOk result (λ stated. All (λ node. IsWithinLimits node.kind) stated) }
     ensures err { IfErr result (IsFaultAt 3 (failing node_is_beyond 0 entry (items_view nodes.now))) }
 {
     let mut stated = Items::new(alloc);
@@ -139,7 +130,6 @@ fn nodes_within(alloc: Global, table: &Table) -> Result<LimitedNodes, Fault>
         nodes) }
     ensures few { IfOk result (λ _. count (nodes_in (table_view table.now)) ≤ 256) }
     ensures counted { IfOk result (λ nodes. length nodes ≡ count (nodes_in (table_view table.now))) }
-    ensures within { IfOk result (λ nodes. All (λ node. IsWithinLimits node.kind) nodes) }
     ensures passes { IfOk result (λ _. first (beyond_nodes (table_view table.now)) ≡ None) }
     ensures err { IfErr result (IsFaultAt 3 (beyond_nodes (table_view table.now))) }
 {
@@ -179,7 +169,6 @@ pub fn limited(alloc: Global, table: &Table) -> Result<LimitedFile, Fault>
     ensures some_node { IfOk result (λ _. 1 ≤ count (nodes_in (table_view table.now))) }
     ensures few_nodes { IfOk result (λ _. count (nodes_in (table_view table.now)) ≤ 256) }
     ensures counted { IfOk result (λ file. length file.nodes ≡ count (nodes_in (table_view table.now))) }
-    ensures within { IfOk result (λ file. All (λ node. IsWithinLimits node.kind) file.nodes) }
     ensures few_binds { IfOk result (λ _. count (binds_in (table_view table.now)) ≤ 1024) }
     ensures passes { IfOk result (λ _. first_failing (limit_checks (table_view table.now)) ≡ None) }
     ensures err { IfErr result (IsFaultOf (first_failing (limit_checks (table_view table.now)))) }

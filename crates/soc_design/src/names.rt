@@ -4,7 +4,6 @@ ghost use Rattle.std.specs.List.{list_any};
 ghost use Rattle.std.specs.Str.{bytes_eq};
 ghost use Rattle.dip_lists.specs.First.{first, first_failing};
 ghost use Rattle.soc_design.specs.Stated as spec;
-ghost use Rattle.soc_design.specs.Standing.{IsTree, IsStanding, IsWithinLimits};
 ghost use Rattle.dip_graph.specs.Faults.{IsFaultAt, IsFaultOf};
 ghost use Rattle.soc_design.specs.Reading as reading;
 
@@ -37,8 +36,7 @@ struct NamedNodes {
 fn module_under(modules: &Names, table: &Table, key: &str) -> Option<u32>
     requires some { 1 ≤ length modules.now }
     requires few { length modules.now ≤ 256 }
-    ensures value { result ≡ spec.module_under key.now modules.now (table_view table.now) }
-    ensures within { IfSome result (λ number. number < length modules.now) }
+    ensures { result ≡ spec.module_under key.now modules.now (table_view table.now) }
 {
     match text_under(table, key) {
         Some(name) => Some(modules.number_of(name)? as u32),
@@ -57,7 +55,6 @@ fn module_after(
     ensures value { IfOk result (λ entry. entry ≡ spec.module_after earlier.now (view value.now)) }
     ensures new { IfOk result (λ found. IfSome found (λ entry. list_any (bytes_eq entry.name)
         earlier.now ≡ false)) }
-    ensures earlier { IfOk result (λ found. IfSome found (λ entry. entry.parent < length earlier.now)) }
     ensures named { IfOk result (λ found. IfSome found (λ entry. entry.name ≡ spec.name_at
         (view value.now))) }
 {
@@ -102,7 +99,6 @@ fn stated_modules(alloc: Global, top: &Name, table: &Table) -> Result<NamedModul
     ensures some { IfOk result (λ modules. 1 ≤ length modules.names) }
     ensures few { IfOk result (λ modules. length modules.names ≤ 256) }
     ensures counted { IfOk result (λ modules. length modules.tree ≡ length modules.names) }
-    ensures parents { IfOk result (λ modules. IsTree modules.tree) }
     ensures passes { IfOk result (λ _. first (reading.unnamed_modules_in top.now (table_view table.now)) ≡
         None) }
     ensures err { IfErr result (IsFaultAt 4 (reading.unnamed_modules_in top.now (table_view table.now))) }
@@ -129,8 +125,7 @@ fn stated_modules(alloc: Global, top: &Name, table: &Table) -> Result<NamedModul
 fn module_of(modules: &Names, value: &Value) -> Option<u32>
     requires some { 1 ≤ length modules.now }
     requires few { length modules.now ≤ 256 }
-    ensures value { result ≡ spec.module_of modules.now (view value.now) }
-    ensures within { IfSome result (λ number. number < length modules.now) }
+    ensures { result ≡ spec.module_of modules.now (view value.now) }
 {
     let Value::Table(table) = value else {
         return None;
@@ -148,14 +143,11 @@ fn stated_nodes(
     requires some { 1 ≤ length modules.now }
     requires few { length modules.now ≤ 256 }
     requires limited { spec.all_of spec.node_of (reading.nodes_in (table_view table.now)) ≡ Some limited }
-    requires within { All (λ node. IsWithinLimits node.kind) limited }
     ensures names { IfOk result (λ nodes. nodes.names ≡ reading.node_names (table_view table.now)) }
     ensures nodes { IfOk result (λ nodes. reading.stated_nodes modules.now (table_view table.now) ≡ Some
         nodes.nodes) }
     ensures counted { IfOk result (λ nodes. length nodes.nodes ≡ reading.count
         (reading.nodes_in (table_view table.now))) }
-    ensures within { IfOk result (λ nodes. All (λ node. IsWithinLimits node.kind) nodes.nodes) }
-    ensures placed { IfOk result (λ nodes. All (λ node. node.«module» < length modules.now) nodes.nodes) }
     ensures passes { IfOk result (λ _. first (reading.unnamed_nodes_in modules.now (table_view table.now)) ≡
         None) }
     ensures err { IfErr result (IsFaultAt 4 (reading.unnamed_nodes_in modules.now
@@ -190,8 +182,7 @@ fn stated_nodes(
 // The number of the node that a key names.
 fn node_under(names: &Names, table: &Table, key: &str) -> Option<u32>
     requires { length names.now ≤ 256 }
-    ensures value { result ≡ spec.node_under key.now names.now (table_view table.now) }
-    ensures within { IfSome result (λ number. number < length names.now) }
+    ensures { result ≡ spec.node_under key.now names.now (table_view table.now) }
 {
     let number = names.number_of(name_under(table, key)?)?;
     Some(number as u32)
@@ -223,9 +214,7 @@ fn star_in(table: &Table) -> Option<Star>
 // The bind that a table states between named nodes.
 fn bind_of(names: &Names, value: &Value) -> Option<BindEntry>
     requires { length names.now ≤ 256 }
-    ensures value { result ≡ spec.bind_of names.now (view value.now) }
-    ensures within { IfSome result (λ bind. (bind.to < length names.now) × (bind.from < length
-        names.now)) }
+    ensures { result ≡ spec.bind_of names.now (view value.now) }
 {
     let Value::Table(table) = value else {
         return None;
@@ -243,8 +232,6 @@ fn stated_binds(alloc: Global, names: &Names, table: &Table) -> Result<Binds, Fa
         (reading.binds_in (table_view table.now)) ≡ Some binds) }
     ensures counted { IfOk result (λ binds. length binds ≡ reading.count
         (reading.binds_in (table_view table.now))) }
-    ensures within { IfOk result (λ binds. All (λ bind. (bind.to < length names.now) × (bind.from < length
-        names.now)) binds) }
     ensures passes { IfOk result (λ _. first (reading.unnamed_binds_in names.now (table_view table.now)) ≡
         None) }
     ensures err { IfErr result (IsFaultAt 4 (reading.unnamed_binds_in names.now (table_view table.now))) }
@@ -269,12 +256,11 @@ fn stated_binds(alloc: Global, names: &Names, table: &Table) -> Result<Binds, Fa
 /// unknown module, or else the first bind that names a node that isn't there.
 pub fn named_design(alloc: Global, file: LimitedFile, table: &Table) -> Result<Design, Fault>
     requires nodes { spec.all_of spec.node_of (reading.nodes_in (table_view table.now)) ≡ Some file.nodes }
-    requires within { All (λ node. IsWithinLimits node.kind) file.nodes }
     requires few_modules { reading.count (reading.modules_in (table_view table.now)) ≤ 255 }
     requires few_nodes { reading.count (reading.nodes_in (table_view table.now)) ≤ 256 }
     ensures ok { IfOk result (λ design. reading.design_with (table_view table.now) file.heading ≡ Some
         design) }
-    ensures stands { IfOk result IsStanding }
+    ensures modules { IfOk result (λ design. length design.modules ≤ 256) }
     ensures nodes { IfOk result (λ design. length design.nodes ≡ reading.count
         (reading.nodes_in (table_view table.now))) }
     ensures binds { IfOk result (λ design. length design.binds ≡ reading.count

@@ -2,12 +2,10 @@ ghost use Rattle.std.specs.Prelude.{◌≡◌, ◌≤◌, ◌^◌, length, IsTru
 ghost use Rattle.toml.specs.Data.{get_member};
 ghost use Rattle.toml.specs.View.{table_view, view, items_view};
 ghost use Rattle.dip_sets.specs.Names as names;
-ghost use Rattle.tl_params.specs.Arguments as arguments;
 ghost use Rattle.soc_design.specs.Stated as spec;
-ghost use Rattle.soc_design.specs.Standing.{IsUpTo64, IsWithinLimits};
 
 use crate::tables::named;
-use dip_graph::NodeKind;
+use dip_graph::{MOST_ARGS, MOST_ATOMIC, MOST_PORTS, MOST_SETS, MOST_SOURCE_IDS, NodeKind};
 use dip_lists::{Few, Items, Memory};
 use dip_sets::{AddressSet, Name, Sizes};
 use std::alloc::Global;
@@ -17,16 +15,8 @@ use toml_shape::{name_under, number_under, number_within, pair, table_under, und
 
 /// The greatest transfer in bytes.
 const MOST_TRANSFER: u64 = 256;
-/// The greatest transfer of an atomic operation in bytes.
-const MOST_ATOMIC: u64 = 8;
 /// The greatest address, base and mask.
 const MOST_ADDRESS: u64 = (1 << 48) - 1;
-/// The most address sets of a port.
-const MOST_SETS: usize = 16;
-/// The most ports of a node.
-const MOST_PORTS: usize = 64;
-/// The most arguments of a node.
-const MOST_ARGS: usize = 8;
 /// The greatest argument.
 const MOST_ARG: u64 = (1 << 32) - 1;
 
@@ -59,8 +49,8 @@ fn operations_in(table: &Table) -> Option<Ops>
         get: sizes_under(table, "get", MOST_TRANSFER)?,
         put_full: sizes_under(table, "put_full", MOST_TRANSFER)?,
         put_partial: sizes_under(table, "put_partial", MOST_TRANSFER)?,
-        arithmetic: sizes_under(table, "arithmetic", MOST_ATOMIC)?,
-        logical: sizes_under(table, "logical", MOST_ATOMIC)?,
+        arithmetic: sizes_under(table, "arithmetic", u64::from(MOST_ATOMIC))?,
+        logical: sizes_under(table, "logical", u64::from(MOST_ATOMIC))?,
         intent: sizes_under(table, "intent", MOST_TRANSFER)?,
     })
 }
@@ -135,9 +125,8 @@ fn ports_in(alloc: Global, items: &[Value]) -> Result<Option<AddressLists>, Memo
 
 // The 1 to 64 ports that stand under a key.
 fn ports_under(alloc: Global, table: &Table, key: &str) -> Result<Option<AddressLists>, Memory>
-    ensures value { IfOk result (λ ports. ports ≡ spec.stated_ports (get_member key.now
+    ensures { IfOk result (λ ports. ports ≡ spec.stated_ports (get_member key.now
         (table_view table.now))) }
-    ensures within { IfOk result (λ found. IfSome found (λ ports. IsUpTo64 (length ports))) }
 {
     let Some(Value::Array(items)) = under(table, key) else {
         return Ok(None);
@@ -154,22 +143,20 @@ fn ports_under(alloc: Global, table: &Table, key: &str) -> Result<Option<Address
 
 // How many ports a source has: 1 to 64, and 1 where they are missing.
 fn port_count(table: &Table) -> Option<u64>
-    ensures value { result ≡ spec.port_count_in (table_view table.now) }
-    ensures within { IfSome result IsUpTo64 }
+    ensures { result ≡ spec.port_count_in (table_view table.now) }
 {
     match under(table, "ports") {
         None => Some(1),
-        Some(_) => number_under(table, "ports", 1, 64),
+        Some(_) => number_under(table, "ports", 1, MOST_PORTS as u64),
     }
 }
 
 // A source.
 fn source_of(table: &Table) -> Option<NodeKind>
-    ensures value { result ≡ spec.source_of (table_view table.now) }
-    ensures within { IfSome result IsWithinLimits }
+    ensures { result ≡ spec.source_of (table_view table.now) }
 {
     let ports = port_count(table)?;
-    let ids = number_under(table, "ids", 1, 64)?;
+    let ids = number_under(table, "ids", 1, u64::from(MOST_SOURCE_IDS))?;
     let emits = operations_under(table, "emits")?;
     Some(NodeKind::Source {
         ports: ports as u32,
@@ -182,7 +169,6 @@ fn source_of(table: &Table) -> Option<NodeKind>
 fn beat_under(table: &Table, key: &str) -> Option<u64>
     ensures value { result ≡ spec.beat_under key.now (table_view table.now) }
     ensures fits { IfSome result (λ beat. beat ≤ 8) }
-    ensures within { IfSome result (λ beat. IsTrue (arguments.is_width beat)) }
 {
     let beat = number_under(table, key, 1, 8)?;
     if is_width(beat as u32) {
@@ -194,8 +180,7 @@ fn beat_under(table: &Table, key: &str) -> Option<u64>
 
 // A sink.
 fn sink_of(alloc: Global, table: &Table) -> Result<Option<NodeKind>, Memory>
-    ensures value { IfOk result (λ kind. kind ≡ spec.sink_of (table_view table.now)) }
-    ensures within { IfOk result (λ kind. IfSome kind IsWithinLimits) }
+    ensures { IfOk result (λ kind. kind ≡ spec.sink_of (table_view table.now)) }
 {
     let Some(beat) = beat_under(table, "beat") else {
         return Ok(None);
@@ -239,8 +224,7 @@ fn args_in(alloc: Global, items: &[Value]) -> Result<Option<Args>, Memory>
 
 // The at most 8 arguments that stand under a key, none where it is missing.
 fn args_under(alloc: Global, table: &Table, key: &str) -> Result<Option<Args>, Memory>
-    ensures value { IfOk result (λ args. args ≡ spec.args_of (get_member key.now (table_view table.now))) }
-    ensures within { IfOk result (λ found. IfSome found (λ args. length args ≤ 8)) }
+    ensures { IfOk result (λ args. args ≡ spec.args_of (get_member key.now (table_view table.now))) }
 {
     let items = match under(table, key) {
         None => return Ok(Some(Items::new(alloc))),
@@ -260,8 +244,7 @@ fn args_under(alloc: Global, table: &Table, key: &str) -> Result<Option<Args>, M
 // A node of a kind that a rule is for.
 fn ruled_of(alloc: Global, kind: &str, table: &Table) -> Result<Option<NodeKind>, Memory>
     requires { IsTrue (names.is_name kind.now) }
-    ensures value { IfOk result (λ node. node ≡ spec.ruled_of kind.now (table_view table.now)) }
-    ensures within { IfOk result (λ node. IfSome node IsWithinLimits) }
+    ensures { IfOk result (λ node. node ≡ spec.ruled_of kind.now (table_view table.now)) }
 {
     let Some(args) = args_under(alloc, table, "args")? else {
         return Ok(None);
@@ -272,8 +255,7 @@ fn ruled_of(alloc: Global, kind: &str, table: &Table) -> Result<Option<NodeKind>
 
 // What a node is.
 fn kind_of(alloc: Global, table: &Table) -> Result<Option<NodeKind>, Memory>
-    ensures value { IfOk result (λ kind. kind ≡ spec.kind_of (table_view table.now)) }
-    ensures within { IfOk result (λ kind. IfSome kind IsWithinLimits) }
+    ensures { IfOk result (λ kind. kind ≡ spec.kind_of (table_view table.now)) }
 {
     match name_under(table, "kind") {
         Some("source") => Ok(source_of(table)),
@@ -295,8 +277,7 @@ pub type LimitedNodes = Items<LimitedNode>;
 
 /// The node that a table states; `None` where a number of it is beyond its limits.
 pub fn node_of(alloc: Global, value: &Value) -> Result<Option<LimitedNode>, Memory>
-    ensures value { IfOk result (λ node. node ≡ spec.node_of (view value.now)) }
-    ensures within { IfOk result (λ found. IfSome found (λ node. IsWithinLimits node.kind)) }
+    ensures { IfOk result (λ node. node ≡ spec.node_of (view value.now)) }
 {
     let Value::Table(table) = value else {
         return Ok(None);

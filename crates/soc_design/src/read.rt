@@ -2,7 +2,7 @@ ghost use Rattle.std.specs.Prelude.{◌≡◌, ◌≤◌, ◌<◌, ◌^◌, ◌+
 ghost use Rattle.std.specs.Option.{option_map};
 ghost use Rattle.toml.specs.View.{table_view, items_view};
 ghost use Rattle.dip_lists.specs.First.{first, first_failing, failure_of};
-ghost use Rattle.soc_design.specs.Standing.{IsTree, IsStanding, IsWithinLimits};
+ghost use Rattle.dip_graph.specs.WellStated.{IsWellStated};
 ghost use Rattle.dip_graph.specs.Faults.{IsFaultOf};
 ghost use Rattle.soc_design.specs.Reading as spec;
 
@@ -38,7 +38,7 @@ fn tree_of(alloc: Global, bytes: &[u8]) -> Result<Option<Table>, Memory>
 // The design that a tree states; `Fault::Check` names the first of the checks 2 to 4 that fails.
 fn design_in(alloc: Global, table: &Table) -> Result<Design, Fault>
     ensures ok { IfOk result (λ design. spec.design_of (table_view table.now) ≡ Some design) }
-    ensures stands { IfOk result IsStanding }
+    ensures modules { IfOk result (λ design. length design.modules ≤ 256) }
     ensures some_node { IfOk result (λ design. 1 ≤ length design.nodes) }
     ensures nodes { IfOk result (λ design. length design.nodes ≤ 256) }
     ensures binds { IfOk result (λ design. length design.binds ≤ 1024) }
@@ -59,16 +59,7 @@ fn design_in(alloc: Global, table: &Table) -> Result<Design, Fault>
 /// `Fault::Memory` nothing is known of the file.
 pub fn read_design(alloc: Global, bytes: &[u8]) -> Result<Design, Fault>
     ensures ok { IfOk result (λ design. spec.stated_design bytes.now ≡ Some design) }
-    ensures modules { IfOk result (λ design. length design.modules ≤ 256) }
-    ensures parents { IfOk result (λ design. IsTree design.modules) }
-    ensures some_node { IfOk result (λ design. 1 ≤ length design.nodes) }
-    ensures nodes { IfOk result (λ design. length design.nodes ≤ 256) }
-    ensures binds { IfOk result (λ design. length design.binds ≤ 1024) }
-    ensures within { IfOk result (λ design. All (λ node. IsWithinLimits node.kind) design.nodes) }
-    ensures placed { IfOk result (λ design. All (λ node. node.«module» < length design.modules)
-        design.nodes) }
-    ensures bound { IfOk result (λ design. All (λ bind. (bind.to < length design.nodes) × (bind.from < length
-        design.nodes)) design.binds) }
+    ensures stated { IfOk result IsWellStated }
     ensures passes { IfOk result (λ _. first_failing (spec.file_checks bytes.now) ≡ None) }
     ensures err { IfErr result (IsFaultOf (first_failing (spec.file_checks bytes.now))) }
 {

@@ -1,9 +1,6 @@
 use Rattle.std.proofs.Common.{◌∙◌, ap, sym, arith, length}
-use Rattle.std.proofs.lemmas.List.Elements.{All-push}
-use Rattle.soc_design.specs.declared.nodes.LimitedNode.{LimitedNode}
-use Rattle.soc_design.specs.Standing.{IsWithinLimits}
 use Rattle.soc_design.specs.Stated as spec
-use Rattle.soc_design.specs.Limits.{most_nodes}
+use Rattle.dip_graph.specs.Limits.{most_nodes}
 use Rattle.soc_design.specs.Reading.{node_is_beyond}
 use Rattle.soc_design.proofs.Failing.{passes}
 use Rattle.soc_design.proofs.Stating.{states_more, within, one_more}
@@ -11,14 +8,10 @@ use Rattle.soc_design.proofs.limits.limited_nodes.Goals as goal
 
 pub loop-place-preserved : goal.loop-place-preserved
 loop-place-preserved c =
-    let states = sym c.in_ok-node.ensures.value ∙ c.in-Some.is in
-    let limits = rw c.in-Some.is at c.in_ok-node.ensures.within in
+    let states = sym c.in_ok-node.ensures ∙ c.in-Some.is in
     record {
       few = omega arith;
       counted = ap length c.in_ok-push.ensures.ok ∙ one_more _ _ _ c.loop-place.invariant.counted;
-      within =
-          rw c.in_ok-push.ensures.ok
-          (All-push (λ (node : LimitedNode). IsWithinLimits node.kind) c.loop-place.stated _ c.loop-place.invariant.within limits);
       stated =
           rw c.in_ok-push.ensures.ok
           (states_more spec.node_of c.loop-place.place c.args.nodes.now c.index-nodes-place.result _ _ c.index-nodes-place.is c.loop-place-test.true states

@@ -3,7 +3,6 @@ use Rattle.std.specs.Option.{option_map}
 use Rattle.toml.specs.View.{items_view}
 use Rattle.dip_lists.specs.First.{first}
 use Rattle.std.specs.Prelude.{All}
-use Rattle.soc_design.specs.Standing.{IsWithinLimits}
 use Rattle.soc_design.specs.Stated as spec
 use Rattle.soc_design.specs.Reading.{failing, node_is_beyond}
 use Rattle.soc_design.proofs.limits.limited_nodes.Given as goal
@@ -13,7 +12,6 @@ invariant-loop-place l =
     record {
       few : l.place ≤ 256;
       counted : length l.stated ≡ l.place;
-      within : All (λ node. IsWithinLimits node.kind) l.stated;
       stated : option_map (λ rest. l.stated ++ rest) (spec.all_of spec.node_of (items_view (drop l.place l.nodes))) ≡ spec.all_of spec.node_of (items_view l.nodes);
       passes : first (failing node_is_beyond l.place (l.entry + l.place) (items_view (drop l.place l.nodes))) ≡ first (failing node_is_beyond 0 l.entry (items_view l.nodes));
     }

@@ -30,16 +30,7 @@ returns-clause-ok c =
     (ap (λ names. stated_nodes names ms) (sym c.in_ok-modules.ensures.names) ∙ c.in_ok-named.ensures.nodes)
     (ap (λ names. all_of (bind_of names) (binds_in ms)) (sym c.in_ok-named.ensures.names) ∙ c.in_ok-binds.ensures.ok)
 
-pub returns-clause-stands : goal.returns-clause-stands
-returns-clause-stands c =
-    let n : length c.in_ok-named.named.names ≡ length c.in_ok-named.named.nodes =
-    ap length c.in_ok-named.ensures.names ∙ count-names_at (nodes_in (table_view c.args.table.now)) ∙ sym c.in_ok-named.ensures.counted in
+pub returns-clause-modules : goal.returns-clause-modules
+returns-clause-modules c =
     let m : length c.in_ok-modules.modules.tree ≡ length c.in_ok-modules.modules.names = c.in_ok-modules.ensures.counted in
-    record {
-      modules = omega (arith, m, c.in_ok-modules.ensures.few);
-      parents = c.in_ok-modules.ensures.parents;
-      within = c.in_ok-named.ensures.within;
-      placed = subst (λ (most : ℕ). All (λ (node : NodeEntry). node.«module» < most) c.in_ok-named.named.nodes) (sym m) c.in_ok-named.ensures.placed;
-      bound =
-          subst (λ (most : ℕ). All (λ (b : BindEntry). (b.to < most) × (b.from < most)) c.in_ok-binds.binds) n c.in_ok-binds.ensures.within;
-    }
+    omega (arith, m, c.in_ok-modules.ensures.few)

@@ -1,5 +1,4 @@
 use Rattle.std.proofs.Common.{◌≡◌, ◌+◌, ◌++◌, drop, length, ◌<◌}
-use Rattle.std.specs.Prelude.{All}
 use Rattle.std.specs.Option.{option_map}
 use Rattle.toml.specs.View.{table_view, items_view}
 use Rattle.dip_lists.specs.First.{first}
@@ -10,7 +9,6 @@ use Rattle.soc_design.proofs.names.stated_binds.Given as goal
 abbrev pub invariant-loop-place : goal.invariant-loop-place
 invariant-loop-place l =
     record {
-      within : All (λ bind. (bind.to < length l.names) × (bind.from < length l.names)) l.stated;
       counted : length l.stated ≡ l.place;
       stated : option_map (λ rest. l.stated ++ rest) (all_of (bind_of l.names) (items_view (drop l.place l.tables))) ≡ all_of (bind_of l.names) (binds_in (table_view l.table));
       passes : first (failing (bind_is_unnamed l.names) l.place (l.entry + l.place) (items_view (drop l.place l.tables))) ≡ first (unnamed_binds_in l.names (table_view l.table));

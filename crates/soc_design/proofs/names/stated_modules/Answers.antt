@@ -1,7 +1,6 @@
 use Rattle.std.proofs.Common.{ℕ, ◌≡◌, ◌<◌, ◌+◌, List, ◌∙◌, ap, sym, arith, take, ◌++◌, ◌∷◌, [], is_none, length, rules}
 use Rattle.toml.specs.View.{view, table_view, items_view}
 use Rattle.dip_graph.specs.declared.design.ModuleEntry.{ModuleEntry}
-use Rattle.soc_design.specs.Standing.{HaveEarlierParents, IsTree}
 use Rattle.soc_design.specs.Stated.{names_at, module_after, module_at}
 use Rattle.soc_design.specs.Reading.{module_is_unnamed, count, modules_in}
 use Rattle.soc_design.proofs.Counting.{count-items_view}
@@ -9,17 +8,6 @@ use Rattle.soc_design.proofs.Failing.{passes}
 use Rattle.soc_design.proofs.Naming.{name_more, all_names}
 use Rattle.soc_design.proofs.Stating.{each_more, one_more}
 use Rattle.soc_design.proofs.names.stated_modules.Goals as goal
-
-parents_more : (number : ℕ) (ms : List ModuleEntry) (m : ModuleEntry) → HaveEarlierParents number ms → m.parent < number + length ms
-    → HaveEarlierParents number (ms ++ m ∷ [])
-parents_more number [] m h e = let below : m.parent < number = omega arith in (below, tt)
-parents_more number (x ∷ ms) m h e =
-    let later : m.parent < number + 1 + length ms = omega arith in
-    (h.0, parents_more (number + 1) ms m h.1 later)
-
-tree_more : (ms : List ModuleEntry) (m : ModuleEntry) → IsTree ms → m.parent < length ms → IsTree (ms ++ m ∷ [])
-tree_more [] m h e = absurd h
-tree_more (top ∷ ms) m h e = let later : m.parent < 1 + length ms = omega arith in (h.0, parents_more 1 ms m h.1 later)
 
 pub loop-place-init : goal.loop-place-init
 loop-place-init c =
@@ -30,7 +18,6 @@ loop-place-init c =
       named = search rules;
       counted = search rules;
       tree_counted = search rules;
-      parents = search rules;
       stated = search rules;
       passes = search rules;
     }
@@ -43,7 +30,6 @@ loop-place-preserved c =
     let place = c.loop-place.place in
     let value = c.index-modules-place.result in
     let name = rw c.in-Some.is at c.in_ok-module.ensures.named in
-    let earlier = rw c.in-Some.is at c.in_ok-module.ensures.earlier in
     let states =
     ap (λ earlier. module_after earlier (view value)) (sym c.loop-place.invariant.named)
     ∙ sym c.in_ok-module.ensures.value
@@ -57,7 +43,6 @@ loop-place-preserved c =
           ∙ ap (λ earlier. top ∷ earlier) (sym (name_more place modules value c.index-modules-place.is c.loop-place-test.true));
       counted = ap length c.in_ok-add.ensures.ok ∙ one_more _ _ _ c.loop-place.invariant.counted;
       tree_counted = ap length c.in_ok-push.ensures.ok ∙ one_more _ _ _ c.loop-place.invariant.tree_counted;
-      parents = rw c.in_ok-push.ensures.ok (tree_more c.loop-place.tree _ c.loop-place.invariant.parents (omega arith));
       stated =
           rw c.in_ok-push.ensures.ok
           (each_more (module_at top names) place modules value _ _ c.index-modules-place.is c.loop-place-test.true states

@@ -3,7 +3,6 @@ use Rattle.std.specs.Option.{option_map}
 use Rattle.toml.specs.View.{table_view, items_view}
 use Rattle.dip_lists.specs.First.{first}
 use Rattle.soc_design.specs.Stated.{each_of, module_at, names_at}
-use Rattle.soc_design.specs.Standing.{IsTree}
 use Rattle.soc_design.specs.Reading.{failing, module_is_unnamed, stated_modules, unnamed_modules_in}
 use Rattle.soc_design.proofs.names.stated_modules.Given as goal
 
@@ -14,7 +13,6 @@ invariant-loop-place l =
       named : l.names ≡ l.top ∷ take l.place (names_at (items_view l.modules));
       counted : length l.names ≡ l.place + 1;
       tree_counted : length l.tree ≡ l.place + 1;
-      parents : IsTree l.tree;
       stated :
           option_map (λ rest. l.tree ++ rest) (each_of (module_at l.top (names_at (items_view l.modules))) l.place (items_view (drop l.place l.modules)))
           ≡ stated_modules l.top (table_view l.table);

@@ -1,7 +1,6 @@
 use Rattle.std.proofs.Common.{ℕ, ◌+◌, List, ◌≡◌, ◌∙◌, ap, sym, refl, arith, take, ◌++◌, ◌∷◌, [], Some, is_none, ◌<◌, length, rules}
 use Rattle.std.specs.Option.{option_map, option_and_then}
 use Rattle.std.specs.Vec.Iter.{into_iter_items}
-use Rattle.std.proofs.lemmas.List.Elements.{All-push, All-head, All-same, All-rest}
 use Rattle.toml.specs.View.{view, table_view, items_view}
 use Rattle.toml.specs.Data.{Items}
 use Rattle.std.specs.List.{list_any}
@@ -9,7 +8,6 @@ use Rattle.std.specs.Str.{bytes_eq}
 use Rattle.dip_lists.specs.First.{first, failure_of}
 use Rattle.dip_graph.specs.declared.design.NodeEntry.{NodeEntry}
 use Rattle.soc_design.specs.declared.nodes.LimitedNode.{LimitedNode}
-use Rattle.soc_design.specs.Standing.{IsWithinLimits}
 use Rattle.soc_design.specs.Stated.{all_of, node_of, node_in, name_at, names_at, module_of, placed_node}
 use Rattle.soc_design.specs.Reading.{node_is_unnamed, unnamed_nodes, count, first_node, nodes_in}
 use Rattle.soc_design.proofs.Counting.{count-items_view}
@@ -33,12 +31,7 @@ loop-place-init c =
       left = stated ∙ ap Some (sym (c.into_iter-limited.ensures.rest ∙ c.into_vec.ensures));
       remaining = omega (arith, c.into_vec.result.ok.0, c.into_iter-limited.ensures.len);
       named = search rules;
-      left_within =
-          All-same (λ (node : LimitedNode). IsWithinLimits node.kind) (into_iter_items c.into_iter-limited.result) c.args.limited
-          (c.into_iter-limited.ensures.rest ∙ c.into_vec.ensures) c.requires.within;
-      within = search rules;
       counted = search rules;
-      placed = search rules;
       stated = search rules;
       passes = same_failing _ _ _ _ _ begins c.tables_in-tables.ensures;
     }
@@ -72,12 +65,7 @@ loop-place-preserved c =
     states_less node_of place tables value _ _ c.index-tables-place.is c.loop-place-test.true
     (c.loop-place.invariant.left ∙ ap Some next.0) in
     let name = node_name (view value) _ parts.0 in
-    let limits =
-    All-head (λ (node : LimitedNode). IsWithinLimits node.kind) c.in-Some.node (into_iter_items c.next.new.self)
-    (All-same (λ (node : LimitedNode). IsWithinLimits node.kind) (c.in-Some.node ∷ into_iter_items c.next.new.self)
-    (into_iter_items c.loop-place.limited) (sym next.0) c.loop-place.invariant.left_within) in
-    let within = c.in-Some-module_of.ensures.within in
-    let placed = sym c.module_of.ensures.value ∙ c.in-Some-module_of.is in
+    let placed = sym c.module_of.ensures ∙ c.in-Some-module_of.is in
     record {
       left = parts.1;
       remaining = omega arith;
@@ -87,15 +75,6 @@ loop-place-preserved c =
           ∙ ap (λ last. take place names ++ last ∷ []) (c.as_str-in-loop-place.ensures.text ∙ name)
           ∙ sym (name_more place tables value c.index-tables-place.is c.loop-place-test.true);
       counted = ap length c.in_ok-push.ensures.ok ∙ one_more _ _ _ c.loop-place.invariant.counted;
-      left_within =
-          All-rest (λ (node : LimitedNode). IsWithinLimits node.kind) c.in-Some.node (into_iter_items c.next.new.self)
-          (into_iter_items c.loop-place.limited) next.0 c.loop-place.invariant.left_within;
-      within =
-          rw c.in_ok-push.ensures.ok
-          (All-push (λ (node : NodeEntry). IsWithinLimits node.kind) c.loop-place.nodes _ c.loop-place.invariant.within limits);
-      placed =
-          rw c.in_ok-push.ensures.ok
-          (All-push (λ (node : NodeEntry). node.«module» < length modules) c.loop-place.nodes _ c.loop-place.invariant.placed within);
       stated =
           rw c.in_ok-push.ensures.ok
           (states_more (placed_node modules) place tables value _ _ c.index-tables-place.is c.loop-place-test.true

@@ -1,11 +1,9 @@
 use Rattle.std.proofs.Common.{◌≡◌, ◌<◌, ◌+◌, ◌++◌, Some, drop, take, length}
-use Rattle.std.specs.Prelude.{All}
 use Rattle.std.specs.Option.{option_map}
 use Rattle.std.specs.Vec.Iter.{into_iter_items, into_iter_len}
 use Rattle.toml.specs.View.{table_view, items_view}
 use Rattle.dip_lists.specs.First.{first}
 use Rattle.soc_design.specs.Stated.{all_of, node_of, placed_node, names_at}
-use Rattle.soc_design.specs.Standing.{IsWithinLimits}
 use Rattle.soc_design.specs.Reading.{failing, node_is_unnamed, stated_nodes, unnamed_nodes_in}
 use Rattle.soc_design.proofs.names.stated_nodes.Given as goal
 
@@ -16,9 +14,6 @@ invariant-loop-place l =
       remaining : into_iter_len l.limited + l.place ≡ length l.tables;
       named : l.names ≡ take l.place (names_at (items_view l.tables));
       counted : length l.nodes ≡ l.place;
-      left_within : All (λ node. IsWithinLimits node.kind) (into_iter_items l.limited);
-      within : All (λ node. IsWithinLimits node.kind) l.nodes;
-      placed : All (λ node. node.«module» < length l.modules) l.nodes;
       stated :
           option_map (λ rest. l.nodes ++ rest) (all_of (placed_node l.modules) (items_view (drop l.place l.tables)))
           ≡ stated_nodes l.modules (table_view l.table);
