@@ -50,7 +50,8 @@ use Rattle.tl_params.specs.Owners.{sets_of as all_sets}
 use Rattle.tl_params.specs.Apart.{HasDisjointSets}
 use Rattle.dip_plan.specs.DesignPlans.{kind_leaves, source_ports, sink_ports, plan_edge, plan_edges, plan_of}
 use Rattle.dip_plan.specs.PlanLaws.{KindHas}
-use Rattle.dip_plan.specs.Judged.{IsStatedPort, IsStatedSink, IsStatedKind, IsWellStated, IsJudged}
+use Rattle.dip_graph.specs.WellStated.{IsShortName, IsStatedPort, IsStatedKind, IsStatedNode, IsWellStated}
+use Rattle.dip_plan.specs.Judged.{IsJudged}
 use Rattle.dip_plan.specs.LeafLaws.{IsSoundLeaf}
 use Rattle.dip_plan.specs.SoundLaw.{HasSizes, SoundPlanLaw}
 use Rattle.dip_plan.proofs.Members.{place_is}
@@ -390,19 +391,22 @@ module _ (rules : List StatedRule) (design : Design) (edges : List Edge) (soluti
   sink_edge : (port : PlanPort) (s : IsSinkPort port) → edge_at plan port.edge ≡ plan_edge (port_down solution.down port.edge) (sink_port port.node port.port s.beat s.ports s.supports)
   sink_edge port s = edge_is port.edge (slice_get_within edges port.edge s.edge s.at) ∙ ap (λ up. plan_edge (port_down solution.down port.edge) up) (sink_up port s)
 
-  stated_sink : (port : PlanPort) (s : IsSinkPort port) → IsStatedSink s.beat s.ports s.supports.arithmetic.max s.supports.logical.max
-  stated_sink port s = subst IsStatedKind s.kind (item_has (λ (node : NodeEntry). IsStatedKind node.kind) design.nodes port.node s.entry w.kinds s.is)
+  stated : (node : ℕ) (entry : NodeEntry) → slice_get design.nodes node ≡ Some entry → IsStatedNode (length design.modules) entry
+  stated node entry is = item_has (IsStatedNode (length design.modules)) design.nodes node entry w.nodes is
+
+  stated_sink : (port : PlanPort) (s : IsSinkPort port) → IsStatedKind (Sink s.beat s.ports s.supports)
+  stated_sink port s = subst IsStatedKind s.kind (stated port.node s.entry s.is).2
 
   sink_slaves : (port : PlanPort) → IsSinkPort port → All IsFounded (edge_at plan port.edge).slaves
   sink_slaves port s =
       let st = stated_sink port s in
-      let sets : IsStatedPort (addresses_at s.ports port.port) = at_default IsStatedPort s.ports [] port.port st.each s.low in
+      let sets : IsStatedPort (addresses_at s.ports port.port) = at_default IsStatedPort s.ports [] port.port st.2 s.low in
       subst (λ (edge : PlanEdge). All IsFounded edge.slaves) (sym (sink_edge port s))
       (All-cons IsFounded (record { node = port.node; port = port.port; addresses = addresses_at s.ports port.port; supports = s.supports }) []
-      (record { some = sets.some; sets = sets.right; arithmetic = st.small_arithmetic; logical = st.small_logical }) (All-nil IsFounded))
+      (record { some = sets.0.0; sets = sets.1; arithmetic = st.3.0; logical = st.3.1 }) (All-nil IsFounded))
 
   sink_width : (port : PlanPort) → IsSinkPort port → IsTrue (is_width (beat_of (edge_at plan port.edge)))
-  sink_width port s = subst (λ (edge : PlanEdge). IsTrue (is_width (beat_of edge))) (sym (sink_edge port s)) (stated_sink port s).width
+  sink_width port s = subst (λ (edge : PlanEdge). IsTrue (is_width (beat_of edge))) (sym (sink_edge port s)) (stated_sink port s).0
 
   answered : (port : PlanPort) → IsSinkPort port → IsItsSlave (edge_at plan port.edge).slaves port
   answered port s = record {
@@ -481,17 +485,18 @@ module _ (rules : List StatedRule) (design : Design) (edges : List Edge) (soluti
       (All-weaker IsSourcePort (λ (a : PlanPort). All (AreApart a) plan.sinks) (λ a s. All-weaker IsSinkPort (AreApart a) (λ b t. other_kinds a b s t) plan.sinks all_sinks) plan.sources all_sources)
 
   short_name : (port : PlanPort) (n : IsNamed port) → length port.name ≤ 32
-  short_name port n = subst (λ t. length t ≤ 32) (sym n.name) (item_has (λ (node : NodeEntry). length node.name ≤ 32) design.nodes port.node n.entry w.names n.is)
+  short_name port n = subst (λ t. length t ≤ 32) (sym n.name) (stated port.node n.entry n.is).0
 
   short_source : (port : PlanPort) → IsSourcePort port → IsShort port
   short_source port s =
-      let few : s.ports ≤ 64 = subst IsStatedKind s.kind (item_has (λ (node : NodeEntry). IsStatedKind node.kind) design.nodes port.node s.entry w.kinds s.is) in
+      let st : IsStatedKind (Source s.ports s.ids s.emits) = subst IsStatedKind s.kind (stated port.node s.entry s.is).2 in
+      let few = st.0.1 in
       let l = s.low in
       record { name = short_name port (named_source port s); port = omega arith }
 
   short_sink : (port : PlanPort) → IsSinkPort port → IsShort port
   short_sink port s =
-      let few = (stated_sink port s).few in
+      let few = (stated_sink port s).1.1 in
       let l = s.low in
       record { name = short_name port (named_sink port s); port = omega arith }
 
@@ -514,7 +519,7 @@ module _ (rules : List StatedRule) (design : Design) (edges : List Edge) (soluti
   }
 
 pub sound_plan : SoundPlanLaw
-sound_plan rules design w h sizes = sound rules design (edges_in rules design) (solution_of rules design (edges_in rules design)) w (judged rules design w.named h) sizes
+sound_plan rules design w h sizes = sound rules design (edges_in rules design) (solution_of rules design (edges_in rules design)) w (judged rules design w.bound h) sizes
 
 -- as a call needs it: the plan of the accepted value, and that its edges join nodes
 pub planned_sound : (rules : List StatedRule) (design : Design) (accepted : Accepted) → IsWellStated design → first_failing (design_checks rules design) ≡ None → accepted ≡ accepted_of rules design

@@ -25,34 +25,6 @@ use Rattle.dip_graph.specs.Edges.{edges_at}
 use Rattle.tl_params.specs.Apart.{HasDisjointSets}
 use Rattle.dip_plan.specs.PlanLaws.{EachJoins, KindHas, HasItsPorts}
 
--- ---- what a design promises from its file on
-
--- the address sets of a sink's port
-pub record IsStatedPort (sets : List Pattern) : Type 0 where
-  pub some : 1 ≤ length sets
-  pub right : All IsSet sets
-
-pub record IsStatedSink (beat : ℕ) (ports : List (List Pattern)) (arithmetic logical : ℕ) : Type 0 where
-  pub width : IsTrue (is_width beat)
-  pub few : length ports ≤ 64
-  pub each : All IsStatedPort ports
-  pub small_arithmetic : arithmetic ≤ 8
-  pub small_logical : logical ≤ 8
-
-abbrev pub IsStatedKind : NodeKind → Type 0
-IsStatedKind (Source ports ids emits) = ports ≤ 64
-IsStatedKind (Sink beat ports supports) = IsStatedSink beat ports supports.arithmetic.max supports.logical.max
-IsStatedKind (Ruled kind args) = Unit {0}
-
-pub record IsWellStated (design : Design) : Type 0 where
-  pub named : All (HasNodes design.nodes) design.binds
-  pub name : length design.name ≤ 32
-  pub names : All (λ (node : NodeEntry). length node.name ≤ 32) design.nodes
-  pub apart : AllPairs (λ (a : NodeEntry) (b : NodeEntry). a.name ≡ b.name → ⊥) design.nodes
-  pub kinds : All (λ (node : NodeEntry). IsStatedKind node.kind) design.nodes
-
--- ---- what its checks add
-
 pub record IsJudged (rules : List StatedRule) (design : Design) (edges : List Edge) (solution : Solution) : Type 0 where
   pub negotiable : IsNegotiable design edges
   pub down : Solves (down_pass rules design.nodes edges) edges solution.down

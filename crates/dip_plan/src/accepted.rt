@@ -4,7 +4,7 @@ ghost use Rattle.tl_edge.specs.SoundPlans.{IsSound};
 ghost use Rattle.dip_graph.specs.Faults.{IsFaultOf};
 ghost use Rattle.dip_checks.specs.Checks.{accepted_of, design_checks};
 ghost use Rattle.dip_plan.specs.DesignPlans as spec;
-ghost use Rattle.dip_plan.specs.Judged.{IsWellStated};
+ghost use Rattle.dip_graph.specs.WellStated.{IsWellStated};
 
 use crate::assemble::plan_of;
 use crate::sizes::edges_have_sizes;
@@ -26,8 +26,6 @@ pub struct Planned {
 /// The edges, the only solution and the plan of a design.
 #[tactic(auto, using(crate::proofs::Whole::planned_sound))]
 pub fn check(alloc: Global, design: &Design, rules: &Rules) -> Result<Planned, Fault>
-    requires nodes { length design.now.nodes ≤ 256 }
-    requires binds { length design.now.binds ≤ 1024 }
     requires stated { IsWellStated design.now }
     ensures edges { IfOk result (λ planned. planned.edges ≡ (accepted_of (⟦<Rules as Stating>⟧.stated rules.now) design.now).edges) }
     ensures plan { IfOk result (λ planned. planned.plan ≡ spec.plan_of (⟦<Rules as Stating>⟧.stated rules.now) design.now planned.edges
