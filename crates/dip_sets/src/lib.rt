@@ -12,5 +12,5 @@ pub use assign::{assign_ranges, goes_first, rounded_up};
 pub use ids::{IdRange, IdRanges};
 pub use name::{Name, is_name};
 pub use region::split_region;
-pub use set::{AddressSet, AddressSets, BadSet};
+pub use set::{AddressSet, AddressSets, BadSet, members_law};
 pub use sizes::Sizes;
