@@ -1,4 +1,5 @@
 mod OwnedBy
-pub mod Greatest
+pub mod Finding
+pub mod Largest
 mod Carrying
 pub mod OneOwner

@@ -1,13 +1,18 @@
 -- Ports on which each address has at most one set, and so at most one owner.
-use Rattle.std.specs.Prelude.{ℕ, ◌≡◌, AllPairs}
+use Rattle.std.specs.Prelude.{ℕ, ◌≡◌, List, AllPairs}
 use Rattle.dip_sets.specs.Sets.{Disjoint}
+use Rattle.tl_params.specs.declared.ports.Slave.{Slave}
 use Rattle.tl_params.specs.declared.ports.UpPort.{UpPort}
 use Rattle.tl_params.specs.OwnerLaw.{Owns}
 use Rattle.tl_params.specs.Owners.{sets_of}
 
+-- no address is in two sets of some slaves
+abbrev pub HaveDisjointSets : List Slave → Type 0
+HaveDisjointSets slaves = AllPairs Disjoint (sets_of slaves)
+
 -- no address is in two sets of the port
 abbrev pub HasDisjointSets : UpPort → Type 0
-HasDisjointSets up = AllPairs Disjoint (sets_of up.slaves)
+HasDisjointSets up = HaveDisjointSets up.slaves
 
 -- each address has at most one owner: two places with it are the same place
 abbrev pub HasOneOwnerEach : UpPort → Type 0

@@ -1,5 +1,8 @@
+pub mod Aligned
 pub mod Arguments
 pub mod Carried
+pub mod Codes
+pub mod CodesLaw
 pub mod Operations
 pub mod OwnerLaw
 pub mod Owners
