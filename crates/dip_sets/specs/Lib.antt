@@ -6,3 +6,4 @@ pub mod Names
 pub mod Regions
 pub mod Sets
 pub mod SizeRanges
+pub mod WholeBlocks

@@ -1,7 +1,6 @@
 ghost use Rattle.std.specs.Prelude.{ℕ, ◌≡◌, ◌≢◌, ◌+◌, ◌%◌, ◌<◌, ◌≤◌, ◌^◌, ◌⊎◌, ◌↔◌, bit_and};
 ghost use Rattle.std.specs.Prelude.{IsTrue, IfOk, OnErr, IsNone, IfSome, AllPairs};
 ghost use Rattle.std.specs.Int.{IsPowerOfTwo};
-ghost use Rattle.dip_sets.specs.MembersLaw.{MembersLaw};
 ghost use Rattle.dip_sets.specs.Regions.{block_set};
 ghost use Rattle.dip_sets.specs.Differences.{cut_bits, piece, pieces, ArePieces, difference, InDifference};
 ghost use Rattle.dip_sets.specs.Sets.{In, InSome, Overlap, Disjoint, Covers, IsCommon, IsLowestClear, IsSet};
@@ -191,11 +190,6 @@ impl AddressSet {
         Ok(sets)
     }
 }
-
-/// What the test of a set finds, for every number: its members, which are addresses of 48 bits.
-pub fn members_law()
-    ensures { MembersLaw }
-{}
 
 impl Default for AddressSet {
     ghost is_default = { λ s. s ≡ record { base = 0; mask = 0 } };

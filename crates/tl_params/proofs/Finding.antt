@@ -37,7 +37,7 @@ module _ {X : Type 0} where
       any_none P (subst (λ l. Any P l) (drop_all i all (subst (λ l. length l ≤ i) same past)) h)
 
 -- what the slave at a place owns
-owns_at : (slaves : List Slave) (i : ℕ) (slave : Slave) (x : ℕ) → slice_get slaves i ≡ Some slave → Owns slaves i x → InSome slave.addresses x
+pub owns_at : (slaves : List Slave) (i : ℕ) (slave : Slave) (x : ℕ) → slice_get slaves i ≡ Some slave → Owns slaves i x → InSome slave.addresses x
 owns_at slaves i slave x e (s, is, owns) =
     subst (λ (t : Slave). InSome t.addresses x) (ap (λ (o : Option Slave). unwrap_or o slave) (sym is ∙ e)) owns
 

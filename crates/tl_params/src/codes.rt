@@ -1,6 +1,5 @@
 ghost use Rattle.std.specs.Prelude.{◌≡◌};
 ghost use Rattle.tl_params.specs.Codes as spec;
-ghost use Rattle.tl_params.specs.CodesLaw.{CodesLaw};
 
 use crate::{Ack, Op};
 
@@ -55,8 +54,3 @@ pub fn ack_of_code(code: u64) -> Option<Ack>
         _ => None,
     }
 }
-
-/// The codes and the way back: a code names an operation, or an answer, exactly where it is its code.
-pub fn codes_law()
-    ensures { CodesLaw }
-{}

@@ -1,7 +1,6 @@
 ghost use Rattle.std.specs.Prelude.{◌≡◌, ◌↔◌, IsTrue, IfOk};
 ghost use Rattle.dip_sets.specs.Sets.{InSome};
-ghost use Rattle.tl_params.specs.CarriedLaw.{CarriedLaw};
-ghost use Rattle.tl_params.specs.OwnerLaw.{IsOwner, OwnersByMembers};
+ghost use Rattle.tl_params.specs.OwnerLaw.{IsOwner};
 ghost use Rattle.tl_params.specs.Owners as spec;
 
 use crate::Ops;
@@ -185,15 +184,3 @@ pub fn owner(port: &UpPort, address: u64) -> Option<usize>
 {
     owner_among(port.slaves.as_slice(), address)
 }
-
-/// The owner of any number as an address is the slave one of whose sets has it: a computed place is the first
-/// at which a slave does, and where none is computed no slave does.
-pub fn owner_law()
-    ensures { OwnersByMembers }
-{}
-
-/// What it means that an edge carries what another one shows: the same slaves with the same addresses, and
-/// each size of each operation, whole or, for gets and puts before a fragmenter, in pieces.
-pub fn carried_law()
-    ensures { CarriedLaw }
-{}
