@@ -23,7 +23,7 @@ fn cycles(engine: &mut Engine, count: u64)
 /// The state after so many cycles of a made netlist of so many cells; `None` where it isn't well formed.
 pub fn engine(alloc: Global, cells: u64, count: u64) -> Result<Option<u64>, EngineFault> {
     let netlist = made::netlist(alloc, cells)?;
-    if !well_formed(&netlist) || netlist.inputs.len() != 1 || netlist.outputs.len() != 1 {
+    if !well_formed(alloc, &netlist)? || netlist.inputs.len() != 1 || netlist.outputs.len() != 1 {
         return Ok(None);
     }
     let mut engine = Engine::open(alloc, netlist)?;
@@ -35,7 +35,7 @@ pub fn engine(alloc: Global, cells: u64, count: u64) -> Result<Option<u64>, Engi
 /// the netlist isn't well formed.
 pub fn printed(alloc: Global, cells: u64, times: u64) -> Result<Option<u64>, Memory> {
     let netlist = made::netlist(alloc, cells)?;
-    if !well_formed(&netlist) {
+    if !well_formed(alloc, &netlist)? {
         return Ok(None);
     }
     let mut bytes: u64 = 0;
@@ -50,7 +50,7 @@ pub fn printed(alloc: Global, cells: u64, times: u64) -> Result<Option<u64>, Mem
 /// where the netlist isn't well formed.
 pub fn read_again(alloc: Global, cells: u64, times: u64) -> Result<Option<u64>, TextFault> {
     let netlist = made::netlist(alloc, cells)?;
-    if !well_formed(&netlist) {
+    if !well_formed(alloc, &netlist)? {
         return Ok(None);
     }
     let text = print(alloc, &netlist)?;

@@ -1,6 +1,6 @@
+pub mod NameTables
+pub mod NewNames
 pub mod Nets
-pub mod Names
 pub mod Operators
 pub mod Paths
 pub mod Cycles
-pub mod Marked

@@ -1,4 +1,4 @@
 pub mod Rules
 pub mod Values
 pub mod Loops
-pub mod Marks
+pub mod NameTables

@@ -1,6 +1,7 @@
 -- Which netlists are well formed.
-use Rattle.std.specs.Prelude.{◌≡◌, ◌≢◌, ℕ, ◌+◌, ◌-◌, ◌^◌, ◌<◌, ◌≤◌, IsTrue, List, ◌++◌, length, map, drop, take, slice_index, slice_get, Some, All, AllPairs, nat_eq, codes}
+use Rattle.std.specs.Prelude.{◌≡◌, ◌≢◌, ℕ, ◌+◌, ◌-◌, ◌^◌, ◌<◌, ◌≤◌, IsTrue, List, ◌++◌, length, map, drop, slice_index, slice_get, Some, All, AllPairs, nat_eq, codes}
 use Rattle.std.specs.List.{starts_with}
+use Rattle.dip_sets.specs.Names.{is_name}
 use Rattle.net_cells.specs.declared.netlist.Port.{Port}
 use Rattle.net_cells.specs.declared.netlist.Reg.{Reg}
 use Rattle.net_cells.specs.declared.netlist.Cell.{Cell}
@@ -57,17 +58,13 @@ IsCell ws width (Mux c x y) = HasWidth ws c 1 × HaveWidth ws x y width
 IsCell ws width (Concat x y) = IsNet ws x × IsNet ws y × (width_at ws x + width_at ws y ≡ width)
 IsCell ws width (Select x hi lo) = IsNet ws x × (hi < width_at ws x) × (lo ≤ hi) × (width ≡ hi - lo + 1)
 
--- a name of 3 to 64 bytes that begins with these
+-- a name of at least 3 bytes that begins with these
 abbrev pub IsNamed : List ℕ → List ℕ → Type 0
-IsNamed front name = IsTrue (starts_with nat_eq name front) × (3 ≤ length name) × (length name ≤ 64)
+IsNamed front name = IsTrue (starts_with nat_eq name front) × (3 ≤ length name) × IsTrue (is_name name)
 
 -- the names of all ports, the inputs' before the outputs'
 abbrev pub port_names : Netlist → List (List ℕ)
 port_names n = map (λ (p : Port). p.name) n.inputs ++ map (λ (o : OutPort). o.name) n.outputs
-
--- the name at a place isn't the name at an earlier one; only functions that aren't public cite it
-abbrev pub IsFirst : List (List ℕ) → ℕ → Type 0
-IsFirst names place = All (λ x. Some x ≢ slice_get names place) (take place names)
 
 -- A netlist is well formed: its name, its ports and their names, how many nets there are, their widths, and what each
 -- register, cell and output names.

@@ -1,16 +1,17 @@
 ghost use Rattle.std.specs.Prelude.{◌≡◌, ◌↔◌, ◌+◌, ◌-◌, ◌^◌, ◌<◌, ◌≤◌, IsTrue, All, drop, codes, length};
-ghost use Rattle.std.specs.Option.{option_copied};
-ghost use Rattle.std.specs.Prelude.{◌≢◌, [], AllPairs, Some, slice_get, map, take, unwrap_or};
-ghost use Rattle.net_cells.specs.Marks as marks;
+ghost use Rattle.std.specs.Prelude.{◌≢◌, AllPairs, IfOk, Some, is_some, map, not, slice_get};
+ghost use Rattle.net_cells.specs.NameTables.{are_new, number_in, with_names, with_number};
 ghost use Rattle.net_cells.specs.declared.netlist.Port.{Port};
 ghost use Rattle.net_cells.specs.declared.netlist.Reg.{Reg};
 ghost use Rattle.net_cells.specs.declared.netlist.Cell.{Cell};
 ghost use Rattle.net_cells.specs.declared.netlist.OutPort.{OutPort};
-ghost use Rattle.net_cells.specs.Rules.{IsNet, HasWidth, HaveWidth, HaveOneWidth, IsCell, IsNamed, IsWidth, IsWellFormed, IsFirst, port_names, widths};
+ghost use Rattle.net_cells.specs.Rules.{IsNet, HasWidth, HaveWidth, HaveOneWidth, IsCell, IsNamed, IsWidth, IsWellFormed, port_names, widths};
 
-use crate::marks::{MARKS, is_met, mark_of, meet};
+use crate::name_table::NameTable;
 use crate::netlist::{Cell, CellOp, Netlist, OutPort, Port, Reg, WIDTH_LIMIT};
+use dip_lists::Memory;
 use dip_sets::Name;
+use std::alloc::Global;
 
 // Whether a number has at most so many bits.
 #[tactic(auto, using(crate::proofs::Nets::bits))]
@@ -235,120 +236,72 @@ fn are_few(netlist: &Netlist) -> bool
     sources.is_some_and(|sources| sources.checked_add(cells).is_some())
 }
 
-// The name of a port; the outputs come behind the inputs.
-#[tactic(auto, using(crate::proofs::Nets::places))]
-fn name_at(netlist: &Netlist, place: usize) -> Option<&Name>
-    ensures { option_copied result ≡ slice_get (port_names netlist.now) place }
+// Whether a name isn't in the table, where it is put then.
+fn is_new(table: &mut NameTable, name: &Name) -> Result<bool, Memory>
+    ensures answer { IfOk result (λ is. is ≡ not (is_some (number_in table.old name.now))) }
+    ensures known { IfOk result (λ is. IsTrue is → number_in table.new ≡ with_number (number_in table.old) name.now 0) }
 {
-    let inputs = netlist.inputs.as_slice();
-    if place < inputs.len() {
-        return input_name(inputs, place);
+    if table.number_of(name.bytes()).is_some() {
+        return Ok(false);
     }
-    output_name(netlist.outputs.as_slice(), place - inputs.len())
+    table.set(name.bytes(), 0)?;
+    Ok(true)
 }
 
-fn input_name(inputs: &[Port], place: usize) -> Option<&Name>
-    ensures { option_copied result ≡ slice_get (map (λ (p : Port). p.name) inputs.now) place }
+// Whether the names of inputs differ and aren't in the table, where they are put then.
+fn are_new_inputs(table: &mut NameTable, inputs: &[Port]) -> Result<bool, Memory>
+    ensures answer { IfOk result (λ is. is ≡ are_new (number_in table.old) (map (λ (p : Port). p.name) inputs.now)) }
+    ensures known { IfOk result (λ is. IsTrue is
+        → number_in table.new ≡ with_names (number_in table.old) (map (λ (p : Port). p.name) inputs.now)) }
 {
-    inputs.get(place).map(|port| &port.name)
-}
-
-fn output_name(outputs: &[OutPort], place: usize) -> Option<&Name>
-    ensures { option_copied result ≡ slice_get (map (λ (o : OutPort). o.name) outputs.now) place }
-{
-    outputs.get(place).map(|port| &port.name)
-}
-
-// Whether the port at a place has this name.
-fn is_called(netlist: &Netlist, place: usize, name: &Name) -> bool
-    ensures { IsTrue result ↔ (slice_get (port_names netlist.now) place ≡ Some name.now) }
-{
-    match name_at(netlist, place) {
-        Some(found) => found.same(name),
-        None => false,
-    }
-}
-
-// Whether no port at an earlier place has this name.
-fn is_new(netlist: &Netlist, place: usize, name: &Name) -> bool
-    requires { place ≤ length (port_names netlist.now) }
-    ensures { IsTrue result ↔ All (λ x. x ≢ name.now) (take place (port_names netlist.now)) }
-{
-    for earlier in 0..place {
-        if is_called(netlist, earlier, name) {
-            return false;
+    for port in inputs {
+        if !is_new(table, &port.name)? {
+            return Ok(false);
         }
     }
-    true
+    Ok(true)
 }
 
-// Whether no port at an earlier place has the name of the port at this one.
-fn is_first(netlist: &Netlist, place: usize) -> bool
-    requires { place < length (port_names netlist.now) }
-    ensures { IsTrue result ↔ IsFirst (port_names netlist.now) place }
+// Whether the names of outputs differ and aren't in the table.
+fn are_new_outputs(table: &mut NameTable, outputs: &[OutPort]) -> Result<bool, Memory>
+    ensures { IfOk result (λ is. is ≡ are_new (number_in table.old) (map (λ (o : OutPort). o.name) outputs.now)) }
 {
-    match name_at(netlist, place) {
-        Some(name) => is_new(netlist, place, name),
-        None => true,
-    }
-}
-
-// The mark of the name at a place.
-fn mark_at(netlist: &Netlist, place: usize) -> usize
-    ensures value { result ≡ marks.mark_of (unwrap_or (slice_get (port_names netlist.now) place) []) }
-    ensures few { result < MARKS }
-{
-    match name_at(netlist, place) {
-        Some(name) => mark_of(name.bytes()),
-        None => 0,
-    }
-}
-
-// The same as `is_first`, where the marks of all earlier names were met.
-#[tactic(auto, using(crate::proofs::Marked::unmet_first))]
-fn is_first_by(netlist: &Netlist, place: usize, met: &[bool]) -> bool
-    requires place { place < length (port_names netlist.now) }
-    requires met { marks.AreMet met.now (take place (port_names netlist.now)) }
-    ensures { IsTrue result ↔ IsFirst (port_names netlist.now) place }
-{
-    if is_met(met, mark_at(netlist, place)) {
-        is_first(netlist, place)
-    } else {
-        true
-    }
-}
-
-// Whether no two ports have one name. It takes no memory but a table of marks: a name is compared with all
-// before it only where its mark was met.
-fn names_differ(netlist: &Netlist) -> bool
-    ensures { IsTrue result ↔ AllPairs (λ x y. x ≢ y) (port_names netlist.now) }
-{
-    let inputs = netlist.inputs.as_slice();
-    let outputs = netlist.outputs.as_slice();
-    let mut met = [false; MARKS];
-    for place in 0..inputs.len() + outputs.len() {
-        if !is_first_by(netlist, place, &met) {
-            return false;
+    for port in outputs {
+        if !is_new(table, &port.name)? {
+            return Ok(false);
         }
-        meet(&mut met, mark_at(netlist, place));
     }
-    true
+    Ok(true)
+}
+
+// Whether no two ports have one name.
+fn names_differ(alloc: Global, netlist: &Netlist) -> Result<bool, Memory>
+    ensures { IfOk result (λ is. IsTrue is ↔ AllPairs (λ x y. x ≢ y) (port_names netlist.now)) }
+{
+    let mut table = NameTable::new(alloc);
+    if !are_new_inputs(&mut table, netlist.inputs.as_slice())? {
+        return Ok(false);
+    }
+    are_new_outputs(&mut table, netlist.outputs.as_slice())
 }
 
 /// Whether the rules of well-formed netlists hold: its name, its ports, the number of its nets, their
 /// widths, and what each register, cell and output names. Takes time linear in the size of the netlist, but
-/// for the names of the ports: one whose mark an earlier one has is compared with all earlier ones.
-pub fn well_formed(netlist: &Netlist) -> bool
-    ensures { IsTrue result ↔ IsWellFormed netlist.now }
+/// for the names of its ports: each is looked up among those before it, whatever names they are.
+pub fn well_formed(alloc: Global, netlist: &Netlist) -> Result<bool, Memory>
+    ensures { IfOk result (λ is. IsTrue is ↔ IsWellFormed netlist.now) }
 {
-    is_named(&netlist.name, b"m_")
-        && has_reset(netlist.inputs.as_slice())
-        && has_inputs(netlist.inputs.as_slice())
-        && has_outputs(netlist.outputs.as_slice())
-        && names_differ(netlist)
-        && are_few(netlist)
-        && have_widths(netlist)
-        && has_regs(netlist)
-        && has_cells(netlist)
-        && shows_nets(netlist)
+    let distinct = names_differ(alloc, netlist)?;
+    Ok(
+        distinct
+            && is_named(&netlist.name, b"m_")
+            && has_reset(netlist.inputs.as_slice())
+            && has_inputs(netlist.inputs.as_slice())
+            && has_outputs(netlist.outputs.as_slice())
+            && are_few(netlist)
+            && have_widths(netlist)
+            && has_regs(netlist)
+            && has_cells(netlist)
+            && shows_nets(netlist),
+    )
 }

@@ -62,19 +62,19 @@ fn show(rt: &HostRuntime, engine: &mut Engine, inputs: &[u64], cycles: u64) -> i
 
 /// Prints whether a netlist is well formed.
 pub fn formed(rt: &HostRuntime, netlist: &Netlist) -> io::Result<()> {
-    if well_formed(netlist) {
-        println!(rt; "well formed")
-    } else {
-        println!(rt; "not well formed")
+    match well_formed(rt.alloc(), netlist) {
+        Ok(true) => println!(rt; "well formed"),
+        Ok(false) => println!(rt; "not well formed"),
+        Err(_) => println!(rt; "out of memory"),
     }
 }
 
 /// Runs a netlist with one output for so many cycles with the same inputs, and prints what the output shows
 /// in the last one and the state after it; or why it doesn't run.
 pub fn run(rt: &HostRuntime, netlist: Netlist, inputs: &[u64], cycles: u64) -> io::Result<()> {
-    if !well_formed(&netlist) {
+    let Ok(true) = well_formed(rt.alloc(), &netlist) else {
         return println!(rt; "not well formed");
-    }
+    };
     if !are_inputs(&netlist, inputs) || netlist.outputs.len() != 1 {
         return println!(rt; "no inputs of it, or not one output");
     }

@@ -1,6 +1,6 @@
 use crate::answer::{answer_to, show, show_netlist};
 use crate::changes::{bytes, change, comments, fronts};
-use crate::made::large;
+use crate::made::{large, ports};
 use std::alloc::{AllocError, Global};
 use std::io;
 
@@ -94,6 +94,13 @@ impl Script {
         )
     }
 
+    // A text with many ports: `COUNT LAST FRONT`.
+    fn ports(&self, rt: &HostRuntime, words: &str) -> io::Result<()> {
+        let (count, rest) = cut(words);
+        let (last, front) = cut(rest);
+        ports(rt, number(count), front, last)
+    }
+
     // A line that asks something about the text, or about a made one.
     fn ask(&self, rt: &HostRuntime, word: &str, rest: &str) -> io::Result<()> {
         let text = self.text.as_slice();
@@ -105,6 +112,7 @@ impl Script {
             "bytes" => bytes(rt, text, number(rest)),
             "comments" => comments(rt, text, number(rest)),
             "large" => large(rt, number(rest) as u64),
+            "ports" => self.ports(rt, rest),
             "" => Ok(()),
             _ => println!(rt; "{word} {rest}"),
         }
@@ -124,8 +132,8 @@ impl Script {
     /// Takes a line of the input. `text` begins a text, which the line `.` ends. Then `at START LENGTH
     /// WITH` asks about the text with other bytes in the place of so many of its own, `many` about one with
     /// so many digits there, `netlist` what it says, `fronts` about each front of it, `bytes` and
-    /// `comments` about it with each byte put in at a place, and `large` about the text of a netlist of so
-    /// many cells. Any other line is printed.
+    /// `comments` about it with each byte put in at a place, `large` about the text of a netlist of so
+    /// many cells, and `ports` about one of many ports. Any other line is printed.
     pub fn take(&mut self, rt: &HostRuntime, line: &str) -> io::Result<()> {
         if self.open {
             return self.take_text(rt, line);

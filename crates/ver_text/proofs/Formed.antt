@@ -5,7 +5,6 @@ use Rattle.std.specs.List.{AllByRecursion, starts_with}
 use Rattle.std.proofs.lemmas.List.Elements.{recursion_from_All}
 use Rattle.std.proofs.lemmas.Fmt.{decimal_by_steps}
 use Rattle.dip_lists.proofs.Tests.{both}
-use Rattle.dip_sets.specs.Names.{is_name}
 use Rattle.net_cells.specs.declared.netlist.Port.{Port}
 use Rattle.net_cells.specs.declared.netlist.Reg.{Reg}
 use Rattle.net_cells.specs.declared.netlist.Cell.{Cell}
@@ -13,7 +12,6 @@ use Rattle.net_cells.specs.declared.netlist.OutPort.{OutPort}
 use Rattle.net_cells.specs.Rules.{IsWellFormed, IsNamed, IsCell, IsWidth, HasWidth, widths, port_names}
 use Rattle.ver_text.specs.Numerals.{written_number, numbered}
 use Rattle.ver_text.specs.Due.{has_prefix}
-use Rattle.ver_text.specs.TextLaw.{HasNames}
 use Rattle.ver_text.proofs.Exact.{number_is, join_true, le_to, eq_of}
 use Rattle.ver_text.proofs.NetNames.{Distinct, Unnumbered}
 use Rattle.ver_text.proofs.ValueParts.{declared_as}
@@ -103,23 +101,23 @@ of_map P f (x ∷ xs) h = (h.0, of_map P f xs h.1)
 named_is : (front name : List ℕ) → IsNamed front name → has_prefix front name ≡ true
 named_is front name h = join_true (starts_with nat_eq name front) (nat_le 3 (length name)) h.0 (le_to 3 (length name) h.1)
 
-port_is : (p : Port) → IsNamed (codes "p_") p.name → is_name p.name ≡ true → IsWidth p.width → IsPort p
-port_is p h n w = record { front = named_is (codes "p_") p.name h; form = n; wide = w }
+port_is : (p : Port) → IsNamed (codes "p_") p.name → IsWidth p.width → IsPort p
+port_is p h w = record { front = named_is (codes "p_") p.name h; form = h.2; wide = w }
 
-ports_are : (ps : List Port) → AllByRecursion (λ (p : Port). IsNamed (codes "p_") p.name) ps → AllByRecursion (λ (p : Port). is_name p.name ≡ true) ps
+ports_are : (ps : List Port) → AllByRecursion (λ (p : Port). IsNamed (codes "p_") p.name) ps
     → AllByRecursion (λ (p : Port). IsWidth p.width) ps → AllByRecursion IsPort ps
-ports_are [] h n w = tt
-ports_are (p ∷ ps) h n w = (port_is p h.0 n.0 w.0, ports_are ps h.1 n.1 w.1)
+ports_are [] h w = tt
+ports_are (p ∷ ps) h w = (port_is p h.0 w.0, ports_are ps h.1 w.1)
 
 outs_are : (ws : List ℕ) → ((x : ℕ) → x < length ws → IsWidth (slice_index ws x)) → (os : List OutPort) → AllByRecursion (λ (o : OutPort). IsNamed (codes "p_") o.name) os
-    → AllByRecursion (λ (o : OutPort). is_name o.name ≡ true) os → AllByRecursion (λ (o : OutPort). o.net < length ws) os
+    → AllByRecursion (λ (o : OutPort). o.net < length ws) os
     → AllByRecursion (λ (o : OutPort). IsPort (declared_as ws o)) os
-outs_are ws sized [] h n l = tt
-outs_are ws sized (o ∷ os) h n l = (port_is (declared_as ws o) h.0 n.0 (sized o.net l.0), outs_are ws sized os h.1 n.1 l.1)
+outs_are ws sized [] h l = tt
+outs_are ws sized (o ∷ os) h l = (port_is (declared_as ws o) h.0 (sized o.net l.0), outs_are ws sized os h.1 l.1)
 
-pub good : (name : List ℕ) (is : List Port) (rs : List Reg) (cs : List Cell) (os : List OutPort) → IsWellFormed (made name is rs cs os) → HasNames (made name is rs cs os)
+pub good : (name : List ℕ) (is : List Port) (rs : List Reg) (cs : List Cell) (os : List OutPort) → IsWellFormed (made name is rs cs os)
     → Good name is rs cs os
-good name is rs cs os w h =
+good name is rs cs os w =
     let ws : List ℕ = widths (made name is rs cs os) in
     let in_widths : List ℕ = widths_of (reset_port ∷ is) in
     let reg_widths : List ℕ = map (λ (r : Reg). r.width) rs in
@@ -135,9 +133,9 @@ good name is rs cs os w h =
     let names : Apart (names_of (reset_port ∷ is) ++ map (λ (o : OutPort). o.name) os) = apart_from (port_names (made name is rs cs os)) w.distinct in
     record {
       front = named_is (codes "m_") name w.name;
-      form = h.heading;
-      ports = ports_are is named h.inputs.1 ins.1;
-      outs = outs_are ws sized os outs h.outputs shown;
+      form = w.name.2;
+      ports = ports_are is named ins.1;
+      outs = outs_are ws sized os outs shown;
       names = names;
       unnumbered = (reset_unnumbered, all_unnumbered is named);
       distinct = distinct_from (reset_port ∷ is) (apart_left (names_of (reset_port ∷ is)) (map (λ (o : OutPort). o.name) os) names);

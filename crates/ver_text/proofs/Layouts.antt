@@ -5,7 +5,6 @@ use Rattle.std.specs.List.{AllByRecursion, starts_with}
 use Rattle.std.proofs.lemmas.List.{append-nil, length-map}
 use Rattle.std.proofs.lemmas.List.Elements.{recursion_from_All}
 use Rattle.dip_lists.proofs.Tests.{both}
-use Rattle.dip_sets.specs.Names.{is_name}
 use Rattle.net_cells.specs.declared.netlist.Port.{Port}
 use Rattle.net_cells.specs.declared.netlist.Reg.{Reg}
 use Rattle.net_cells.specs.declared.netlist.Cell.{Cell}
@@ -17,7 +16,7 @@ use Rattle.ver_text.specs.Lexemes.{word_kind}
 use Rattle.ver_text.specs.Tokens.{tokens_from}
 use Rattle.ver_text.specs.Spelling as spec
 use Rattle.ver_text.specs.Spelling.{Piece, signs, laid, header, declarations, values, layout, spelling}
-use Rattle.ver_text.specs.TextLaw.{HasNames, Spells, PrintedSpells, PrintedIsRead, sign_of}
+use Rattle.ver_text.specs.TextLaw.{Spells, PrintedSpells, PrintedIsRead, sign_of}
 use Rattle.ver_text.proofs.Exact.{eq_of}
 use Rattle.ver_text.proofs.Lexing.{scan_all}
 use Rattle.ver_text.proofs.Words.{IsWord, name_word}
@@ -46,13 +45,13 @@ heading_plain name h = let f = front_two 109 95 name h.0 in ap word_kind f.1
 port_plain : (name : List ℕ) → IsNamed (codes "p_") name → word_kind name ≡ kind.Name
 port_plain name h = let f = front_two 112 95 name h.0 in ap word_kind f.1
 
-port_words : (ps : List Port) → AllByRecursion (λ (p : Port). IsNamed (codes "p_") p.name) ps → AllByRecursion (λ (p : Port). is_name p.name ≡ true) ps → AllByRecursion (λ (p : Port). IsWord p.name) ps
-port_words [] h n = tt
-port_words (p ∷ ps) h n = (name_word p.name n.0 (port_plain p.name h.0), port_words ps h.1 n.1)
+port_words : (ps : List Port) → AllByRecursion (λ (p : Port). IsNamed (codes "p_") p.name) ps → AllByRecursion (λ (p : Port). IsWord p.name) ps
+port_words [] h = tt
+port_words (p ∷ ps) h = (name_word p.name h.0.2 (port_plain p.name h.0), port_words ps h.1)
 
-out_words : (os : List OutPort) → AllByRecursion (λ (o : OutPort). IsNamed (codes "p_") o.name) os → AllByRecursion (λ (o : OutPort). is_name o.name ≡ true) os → AllByRecursion (λ (o : OutPort). IsWord o.name) os
-out_words [] h n = tt
-out_words (o ∷ os) h n = (name_word o.name n.0 (port_plain o.name h.0), out_words os h.1 n.1)
+out_words : (os : List OutPort) → AllByRecursion (λ (o : OutPort). IsNamed (codes "p_") o.name) os → AllByRecursion (λ (o : OutPort). IsWord o.name) os
+out_words [] h = tt
+out_words (o ∷ os) h = (name_word o.name h.0.2 (port_plain o.name h.0), out_words os h.1)
 
 port_widths : (ps : List Port) → AllByRecursion IsPort ps → AllByRecursion (λ (p : Port). IsWidth p.width) ps
 port_widths [] h = tt
@@ -165,12 +164,12 @@ all_stand name is rs cs os g l =
 reset_word : IsWord (codes "reset")
 reset_word = record { letter = refl; full = refl; plain = refl }
 
-lexable : (name : List ℕ) (is : List Port) (rs : List Reg) (cs : List Cell) (os : List OutPort) → IsWellFormed (made name is rs cs os) → HasNames (made name is rs cs os)
+lexable : (name : List ℕ) (is : List Port) (rs : List Reg) (cs : List Cell) (os : List OutPort) → IsWellFormed (made name is rs cs os)
     → Lexable (made name is rs cs os)
-lexable name is rs cs os w h = record {
-  heading = name_word name h.heading (heading_plain name w.name);
-  inputs = (reset_word, port_words is (recursion_from_All (λ (p : Port). IsNamed (codes "p_") p.name) is w.inputs) h.inputs.1);
-  outputs = out_words os (recursion_from_All (λ (o : OutPort). IsNamed (codes "p_") o.name) os w.outputs) h.outputs;
+lexable name is rs cs os w = record {
+  heading = name_word name w.name.2 (heading_plain name w.name);
+  inputs = (reset_word, port_words is (recursion_from_All (λ (p : Port). IsNamed (codes "p_") p.name) is w.inputs));
+  outputs = out_words os (recursion_from_All (λ (o : OutPort). IsNamed (codes "p_") o.name) os w.outputs);
   few = w.few;
 }
 
@@ -180,21 +179,20 @@ scanned n h =
     let P : List ℕ → Type 0 = λ text. map (sign_of text) (tokens_from text 0) ≡ spelling n in
     subst P (sym (layout_is n)) (scan_all (pieces_of n) [] (to_scans (pieces_of n) h) ∙ sym (spelling_is n))
 
-made_spells : (name : List ℕ) (is : List Port) (rs : List Reg) (cs : List Cell) (os : List OutPort) → IsWellFormed (made name is rs cs os) → HasNames (made name is rs cs os)
+made_spells : (name : List ℕ) (is : List Port) (rs : List Reg) (cs : List Cell) (os : List OutPort) → IsWellFormed (made name is rs cs os)
     → Spells (layout (made name is rs cs os)) (made name is rs cs os)
-made_spells name is rs cs os w h = record {
+made_spells name is rs cs os w = record {
   formed = w;
-  names = h;
-  signs = scanned (made name is rs cs os) (all_stand name is rs cs os (good name is rs cs os w h) (lexable name is rs cs os w h));
+  signs = scanned (made name is rs cs os) (all_stand name is rs cs os (good name is rs cs os w) (lexable name is rs cs os w));
 }
 
 pub printed_spells : PrintedSpells
-printed_spells n w h =
+printed_spells n w =
     let f = first_input n.inputs w.reset in
     let e : n ≡ made n.name f.0 n.regs n.cells n.outputs =
     ap (λ (ins : List Port). record { name = n.name; inputs = ins; regs = n.regs; cells = n.cells; outputs = n.outputs }) f.1 in
     let P : Netlist → Type 0 = λ m. Spells (layout m) m in
-    subst P (sym e) (made_spells n.name f.0 n.regs n.cells n.outputs (subst IsWellFormed e w) (subst HasNames e h))
+    subst P (sym e) (made_spells n.name f.0 n.regs n.cells n.outputs (subst IsWellFormed e w))
 
 pub printed_read : PrintedIsRead
-printed_read n w h = spelled_read (layout n) n (printed_spells n w h)
+printed_read n w = spelled_read (layout n) n (printed_spells n w)

@@ -17,6 +17,7 @@ pub mod Numerals
 pub mod PortNames
 pub mod PortParts
 pub mod Printed
+pub mod PrintedTexts
 pub mod Readback
 pub mod Refusals
 pub mod Scans

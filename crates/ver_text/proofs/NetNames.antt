@@ -8,7 +8,8 @@ use Rattle.std.proofs.lemmas.Slice.Eq.{bytes_eq-Decides}
 use Rattle.net_cells.specs.declared.netlist.Port.{Port}
 use Rattle.ver_text.specs.declared.progress.Progress.{Progress}
 use Rattle.ver_text.specs.Numerals.{numbered}
-use Rattle.ver_text.specs.Due.{port_place_from, if_within, net_named}
+use Rattle.ver_text.specs.Due.{if_within, net_named}
+use Rattle.ver_text.specs.NamedPorts.{port_place_from}
 use Rattle.ver_text.specs.Spelling.{name_in, register_name, cell_name}
 use Rattle.ver_text.proofs.Readback.{number_read}
 use Rattle.ver_text.proofs.Exact.{lt_to, le_to, join_true}

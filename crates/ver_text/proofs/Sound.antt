@@ -1,12 +1,12 @@
 -- A text that is read as a netlist spells it.
-use Rattle.std.proofs.Common.{ℕ, zero, suc, ◌≡◌, ◌≢◌, ◌+◌, ◌^◌, ◌<◌, ◌≤◌, List, [], ◌∷◌, ◌++◌, length, drop, map, Bool, true, false, ◌&&◌, cond, Option, Some, None, Result, Ok, Err, refl, ap, sym, subst, ◌∙◌, append_assoc, length-append, arith}
+use Rattle.std.proofs.Common.{ℕ, zero, suc, ◌≡◌, ◌≢◌, ◌+◌, ◌^◌, ◌<◌, ◌≤◌, List, [], ◌∷◌, ◌++◌, length, drop, map, Bool, true, false, cond, Option, Some, None, Result, Ok, Err, refl, ap, sym, subst, ◌∙◌, append_assoc, length-append, arith}
 use Rattle.std.specs.Prelude.{codes, nat_eq, nat_le, slice_index, AllPairs, IfOk}
-use Rattle.std.specs.List.{AllByRecursion, list_all, starts_with}
+use Rattle.std.specs.List.{AllByRecursion, starts_with}
 use Rattle.std.proofs.lemmas.List.{drop_at, length-map}
 use Rattle.std.proofs.lemmas.List.Elements.{All-from_recursion}
 use Rattle.std.proofs.lemmas.List.Kept.{AllPairs-cons}
 use Rattle.dip_lists.proofs.Tests.{both}
-use Rattle.dip_sets.specs.Names.{is_name, is_name_byte, begins_with_letter}
+use Rattle.dip_sets.specs.Names.{is_name}
 use Rattle.net_cells.specs.declared.netlist.Port.{Port}
 use Rattle.net_cells.specs.declared.netlist.Reg.{Reg}
 use Rattle.net_cells.specs.declared.netlist.Cell.{Cell}
@@ -240,9 +240,7 @@ spelled name is rs cs os =
 named_so : (front name : List ℕ) → has_prefix front name ≡ true → is_name name ≡ true → IsNamed front name
 named_so front name h n =
     let b = both (starts_with nat_eq name front) (nat_le 3 (length name)) h in
-    let c = both (begins_with_letter name && nat_le (length name) 64) (list_all is_name_byte name) n in
-    let d = both (begins_with_letter name) (nat_le (length name) 64) c.0 in
-    (b.0, le_of 3 (length name) b.1, le_of (length name) 64 d.1)
+    (b.0, le_of 3 (length name) b.1, n)
 
 pairs_nil : AllPairs (λ (a : List ℕ) (b : List ℕ). a ≢ b) []
 pairs_nil i j d l m = absurd (omega arith)
@@ -380,11 +378,6 @@ netlist_by q ss g text l t =
             (subst (λ ws. AllByRecursion (λ (c : Cell). IsCell ws c.width c.op) g.cs) same g.rules);
         shown = All-from_recursion (λ (o : OutPort). IsNet (widths n) o.net) g.os
             (subst (λ ws. AllByRecursion (λ (o : OutPort). IsNet ws o.net) g.os) same g.within);
-      };
-      names = record {
-        heading = g.form;
-        inputs = (refl, ports_have (λ p. is_name p.name ≡ true) (λ p h. h.form) g.is g.ins);
-        outputs = outs_have (λ x. is_name x ≡ true) w (λ p h. h.form) g.os outs;
       };
       signs = t ∙ (g.split
           ∙ (seven_same (head_signs g.name) reset_signs (in_list g.is) (out_ports g.ds) close_signs (reg_list (length (widths_of (ins_of g.is))) g.gs)

@@ -25,7 +25,7 @@ made_read : (text : List ℕ) (name : List ℕ) (is : List Port) (rs : List Reg)
     → read_text text ≡ Ok (made name is rs cs os)
 made_read text name is rs cs os s =
     let all : said at_first seen_start (map (sign_of text) (tokens_from text 0)) ≡ Some (final name is rs cs os) =
-    ap (said at_first seen_start) s.signs ∙ spelled_said name is rs cs os (good name is rs cs os s.formed s.names) in
+    ap (said at_first seen_start) s.signs ∙ spelled_said name is rs cs os (good name is rs cs os s.formed) in
     read_of text name is rs cs os (reads text (tokens_from text 0) at_start (length text) at_first (final name is rs cs os) all)
 
 pub first_input : (ins : List Port) → slice_get ins 0 ≡ Some reset_port → (is : List Port) × (ins ≡ reset_port ∷ is)

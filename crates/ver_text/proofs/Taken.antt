@@ -18,7 +18,8 @@ use Rattle.ver_text.specs.declared.progress.Progress.{Progress}
 use Rattle.ver_text.specs.Kinds.{same_kind}
 use Rattle.ver_text.specs.Numerals.{written_number, number_below, literal, literal_of, is_numbered, numbered}
 use Rattle.ver_text.specs.Fits.{is_cell}
-use Rattle.ver_text.specs.Due.{port_place_from, if_within, cell_named, register_named, net_named, width_of, takes_registers, takes_wires, due_register, due_wire, binary, binary_of, const_of, not_of, mux_of, select_of, cell_op, target, with_cell, due_cell, shown_next, is_port, next_output, due_shown, due_assignment, has_values, with_next, is_next_update, due_update, due_end, is_none}
+use Rattle.ver_text.specs.Due.{if_within, cell_named, register_named, net_named, width_of, takes_registers, takes_wires, due_register, due_wire, binary, binary_of, const_of, not_of, mux_of, select_of, cell_op, target, with_cell, due_cell, shown_next, is_port, next_output, due_shown, due_assignment, has_values, with_next, is_next_update, due_update, due_end, is_none}
+use Rattle.ver_text.specs.NamedPorts.{port_place_from}
 use Rattle.ver_text.specs.Spelling.{Sign, name_in, register_name, cell_name}
 use Rattle.ver_text.specs.TestLaw.{IsRangeIn}
 use Rattle.ver_text.proofs.Exact.{lt_of, le_of, eq_of, lt_to, number_is, below_is, range_is, literal_is, cell_is}

@@ -1,6 +1,6 @@
 -- Which part of a text may come next, and what it says.
 use Rattle.std.specs.Prelude.{ℕ, ◌+◌, ◌==◌, List, [], ◌∷◌, ◌++◌, length, codes, slice_get, slice_index, Bool, true, false, not, ◌&&◌, nat_le, nat_lt, nat_eq, cond, Option, Some, None}
-use Rattle.std.specs.List.{list_all, starts_with}
+use Rattle.std.specs.List.{starts_with}
 use Rattle.std.specs.Str.{bytes_eq}
 use Rattle.dip_sets.specs.Names.{is_name}
 use Rattle.net_cells.specs.declared.netlist.Port.{Port}
@@ -14,18 +14,9 @@ use Rattle.ver_text.specs.Kinds.{same_kind}
 use Rattle.ver_text.specs.Numerals.{number_below, literal_of, is_numbered, numbered}
 use Rattle.ver_text.specs.Tokens.{token_bytes}
 use Rattle.ver_text.specs.Fits.{is_cell}
-
--- whether a list is empty
-abbrev pub is_none : {A : Type 0} → List A → Bool
-is_none [] = true
-is_none (x ∷ xs) = false
+pub use Rattle.ver_text.specs.NamedPorts.{is_none, port_place, is_new}
 
 -- ---- what is known of the nets so far
-
--- the input with a name
-abbrev pub port_place_from : ℕ → List ℕ → List Port → Option ℕ
-port_place_from at name [] = None
-port_place_from at name (port ∷ ports) = cond (bytes_eq port.name name) (Some at) (port_place_from (at + 1) name ports)
 
 -- a number from a first one up to another
 abbrev pub if_within : ℕ → ℕ → ℕ → Option ℕ
@@ -33,7 +24,7 @@ if_within first end number = cond (nat_le first number && nat_lt number end) (So
 
 -- the net of the cell with this number; without one, that of the input with the name
 abbrev pub cell_named : Progress → List ℕ → Option ℕ → Option ℕ
-cell_named p name None = port_place_from 0 name p.inputs
+cell_named p name None = port_place p.inputs name
 cell_named p name (Some number) = if_within p.sources (length p.widths) number
 
 -- the net of the register with this number; without one, that of a cell or an input
@@ -50,10 +41,6 @@ net_named p name = register_named p name (numbered 114 name)
 -- a name of at least 3 bytes that begins with these
 abbrev pub has_prefix : List ℕ → List ℕ → Bool
 has_prefix front name = starts_with nat_eq name front && nat_le 3 (length name)
-
--- no port has this name
-abbrev pub is_new : List Port → List ℕ → Bool
-is_new ports name = list_all (λ (port : Port). not (bytes_eq port.name name)) ports
 
 -- a name for another port
 abbrev pub is_port_name : Progress → List ℕ → Bool

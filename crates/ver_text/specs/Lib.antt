@@ -1,3 +1,4 @@
+pub mod NamedPorts
 pub mod Due
 pub mod Fits
 pub mod Grammar

@@ -1,9 +1,5 @@
 -- What it means that a text spells a netlist.
-use Rattle.std.specs.Prelude.{◌≡◌, ◌<◌, ◌^◌, ℕ, List, length, map, IsTrue, Ok}
-use Rattle.std.specs.List.{AllByRecursion}
-use Rattle.dip_sets.specs.Names.{is_name}
-use Rattle.net_cells.specs.declared.netlist.Port.{Port}
-use Rattle.net_cells.specs.declared.netlist.OutPort.{OutPort}
+use Rattle.std.specs.Prelude.{◌≡◌, ◌<◌, ◌^◌, ℕ, List, length, map, Ok}
 use Rattle.net_cells.specs.declared.netlist.Netlist.{Netlist}
 use Rattle.net_cells.specs.Rules.{IsWellFormed}
 use Rattle.ver_text.specs.declared.token.Token.{Token}
@@ -15,16 +11,9 @@ use Rattle.ver_text.specs.Reading.{read_text}
 abbrev pub sign_of : List ℕ → Token → Sign
 sign_of text token = sign token.kind (token_bytes text token)
 
--- The names of a netlist have the form of names, as those of each netlist that a program makes have.
-pub record HasNames (n : Netlist) : Type 0 where
-  pub heading : IsTrue (is_name n.name)
-  pub inputs : AllByRecursion (λ (p : Port). IsTrue (is_name p.name)) n.inputs
-  pub outputs : AllByRecursion (λ (o : OutPort). IsTrue (is_name o.name)) n.outputs
-
 -- The tokens of a text, in order, are those of a well-formed netlist.
 pub record Spells (text : List ℕ) (n : Netlist) : Type 0 where
   pub formed : IsWellFormed n
-  pub names : HasNames n
   pub signs : map (sign_of text) (tokens_from text 0) ≡ spelling n
 
 -- The netlist that a text spells is what is read of it.
@@ -40,10 +29,10 @@ ReadSpells = (text : List ℕ) (n : Netlist) → length text < 2 ^ 64 → read_t
 abbrev pub SpellsOne : Type 0
 SpellsOne = (text : List ℕ) (n m : Netlist) → Spells text n → Spells text m → n ≡ m
 
--- The printed text of a well-formed netlist spells it, and is read back as it.
+-- The printed text of a well-formed netlist spells it.
 abbrev pub PrintedSpells : Type 0
-PrintedSpells = (n : Netlist) → IsWellFormed n → HasNames n → Spells (layout n) n
+PrintedSpells = (n : Netlist) → IsWellFormed n → Spells (layout n) n
 
 -- The printed text of a well-formed netlist is read back as it.
 abbrev pub PrintedIsRead : Type 0
-PrintedIsRead = (n : Netlist) → IsWellFormed n → HasNames n → read_text (layout n) ≡ Ok n
+PrintedIsRead = (n : Netlist) → IsWellFormed n → read_text (layout n) ≡ Ok n

@@ -22,8 +22,7 @@ pub fn spelling_law()
     ensures only { SpellsOne }
 {}
 
-/// The printed text of a well-formed netlist, whose names have the form of names, spells it and is read
-/// back as it.
+/// The printed text of a well-formed netlist spells it and is read back as it.
 pub fn print_law()
     ensures spells { PrintedSpells }
     ensures read { PrintedIsRead }

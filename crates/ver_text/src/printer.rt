@@ -1,6 +1,8 @@
-ghost use Rattle.std.specs.Prelude.{◌≡◌, ◌++◌, [], ◌∷◌, ◌+◌, ◌^◌, ◌<◌, length, codes, decimal, IfOk, OnOk, slice_index};
+ghost use Rattle.std.specs.Prelude.{◌≡◌, ◌++◌, [], ◌∷◌, ◌+◌, ◌^◌, ◌<◌, length, codes, decimal, IfOk, Ok, OnOk, slice_index};
 ghost use Rattle.net_cells.specs.Rules.{IsWellFormed, widths, sources};
 ghost use Rattle.ver_text.specs.Spelling as spec;
+ghost use Rattle.ver_text.specs.Reading.{read_text};
+ghost use Rattle.ver_text.specs.TextLaw.{Spells};
 
 use crate::kind::Kind;
 use crate::writing::add_literal;
@@ -411,9 +413,9 @@ fn add_values(text: &mut Text, netlist: &Netlist) -> Result<(), Memory>
     text.add(b"endmodule\n")
 }
 
-/// The text of a netlist, in the one layout. The error is want of memory.
+// The text of a netlist, in the one layout.
 #[tactic(auto, unfolding(crate::specs::Spelling::layout))]
-pub fn print(alloc: Global, netlist: &Netlist) -> Result<Bytes, Memory>
+fn laid_out(alloc: Global, netlist: &Netlist) -> Result<Bytes, Memory>
     requires { IsWellFormed netlist.now }
     ensures { IfOk result (λ text. text ≡ spec.layout netlist.now) }
 {
@@ -422,4 +424,16 @@ pub fn print(alloc: Global, netlist: &Netlist) -> Result<Bytes, Memory>
     add_declarations(&mut text, netlist)?;
     add_values(&mut text, netlist)?;
     Ok(text.into_bytes())
+}
+
+/// The text of a netlist, in the one layout: it spells the netlist, and is read back as it. The error is want of
+/// memory.
+#[tactic(auto, using(crate::proofs::PrintedTexts::text_spells, crate::proofs::PrintedTexts::text_read))]
+pub fn print(alloc: Global, netlist: &Netlist) -> Result<Bytes, Memory>
+    requires { IsWellFormed netlist.now }
+    ensures layout { IfOk result (λ text. text ≡ spec.layout netlist.now) }
+    ensures spells { IfOk result (λ text. Spells text netlist.now) }
+    ensures read { IfOk result (λ text. read_text text ≡ Ok netlist.now) }
+{
+    laid_out(alloc, netlist)
 }

@@ -1,22 +1,15 @@
-use Rattle.std.proofs.Common.{◌≢◌, ◌<◌, ℕ, List, length, refl, subst, ap, arith}
-use Rattle.std.specs.Prelude.{AllPairs}
-use Rattle.std.proofs.lemmas.List.{take_all}
-use Rattle.net_cells.specs.Rules.{port_names}
-use Rattle.net_cells.proofs.Names.{pairs_more, many_names}
-use Rattle.net_cells.proofs.Marked.{met_after}
+use Rattle.std.proofs.lemmas.Bool.{false≢true}
+use Rattle.net_cells.proofs.NewNames.{inputs_differ, all_differ}
 use Rattle.net_cells.proofs.rules.names_differ.Goals as goal
 
-pub loop-place-preserved : goal.loop-place-preserved
-loop-place-preserved c =
-    let within : c.loop-place.place < length (port_names c.args.netlist.now) =
-    omega (arith, many_names c.args.netlist.now, ap length c.as_slice-inputs.ensures, ap length c.as_slice-outputs.ensures, c.loop-place-test.true)
-    in record {
-      differ = pairs_more _ _ within c.loop-place.invariant.differ (c.is_first_by.ensures.0 c.if-not-is_first_by.false);
-      met = met_after c.loop-place.met c.meet.new.met (port_names c.args.netlist.now) c.loop-place.place c.mark_at.result within c.mark_at.ensures.value
-          (omega (arith, c.mark_at.ensures.few, c.if-not-is_first_by.array_long)) c.meet.ensures c.loop-place.invariant.met;
-    }
+pub returns-then-not-branch : goal.returns-then-not-branch
+returns-then-not-branch c = (
+  λ e. absurd (false≢true e),
+  λ pairs. absurd (inputs_differ c.args.netlist.now c.as_slice.result.now c.new-table.result c.in_ok-are_new_inputs.field-0 c.as_slice.ensures c.new-table.ensures
+      c.in_ok-are_new_inputs.ensures.answer c.if-not-branch.true pairs),
+)
 
 pub returns : goal.returns
 returns c =
-    let e = take_all c.loop-place.place (port_names c.args.netlist.now) (omega (arith, many_names c.args.netlist.now, ap length c.as_slice-inputs.ensures, ap length c.as_slice-outputs.ensures, c.loop-place-test.false)) in
-    (λ _. subst (λ (x : List (List ℕ)). AllPairs (λ x y. x ≢ y) x) e c.loop-place.invariant.differ, λ _. refl)
+    all_differ c.args.netlist.now c.as_slice.result.now c.as_slice-2.result.now c.new-table.result c.are_new_inputs.new.table c.in_ok-are_new_inputs.field-0 c.are_new_outputs.result
+    c.as_slice.ensures c.as_slice-2.ensures c.new-table.ensures c.in_ok-are_new_inputs.ensures.answer c.in_ok-are_new_inputs.ensures.known c.if-not-branch.false c.are_new_outputs.ensures
