@@ -42,9 +42,9 @@ use Rattle.dip_graph.specs.Edges.{edges_to, edges_from}
 use Rattle.dip_graph.specs.Edges.{edges_at}
 use Rattle.dip_checks.specs.Checks.{beat_at, beats_differ}
 use Rattle.dip_plan.specs.DesignPlans.{leaf_of, leaves_between, plan_edge, plan_edges, plan_of}
-use Rattle.dip_plan.specs.PlanLaws.{KindHas}
-use Rattle.dip_plan.specs.Judged.{IsJudged}
-use Rattle.dip_plan.specs.LeafLaws.{IsSoundLeaf, LeafLaw}
+use Rattle.dip_plan.proofs.PlanLaws.{KindHas}
+use Rattle.dip_plan.proofs.Judged.{IsJudged}
+use Rattle.dip_plan.proofs.LeafLaws.{IsSoundLeaf, LeafLaw}
 use Rattle.dip_plan.proofs.Parts.{by_node, by_template}
 
 both : (a b : Bool) → (a && b) ≡ true → (a ≡ true) × (b ≡ true)

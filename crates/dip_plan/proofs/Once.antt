@@ -21,7 +21,7 @@ use Rattle.dip_negotiate.specs.Negotiation.{IsNegotiable}
 use Rattle.dip_negotiate.specs.declared.solution.Solution.{Solution}
 use Rattle.dip_graph.specs.Edges.{edges_to, edges_from}
 use Rattle.dip_plan.specs.DesignPlans.{leaf_of, leaves_between, built_leaves, kind_leaves, leaves_from, ports_on, source_ports, sink_ports, ports_from, plan_of}
-use Rattle.dip_plan.specs.PlanLaws.{KindJoins, EachJoins, OnceLaw}
+use Rattle.dip_plan.proofs.PlanLaws.{KindJoins, EachJoins, OnceLaw}
 use Rattle.dip_plan.proofs.Ranks.{nodes_exist}
 
 -- ---- how often a number stands in a list

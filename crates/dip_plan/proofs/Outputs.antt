@@ -18,7 +18,7 @@ use Rattle.tl_edge.specs.Plans.{edge_at, outs_of, joined_slaves, no_edge, taken_
 use Rattle.tl_params.specs.Owners.{sets_of}
 use Rattle.tl_edge.specs.SoundPlans.{IsSoundEdge, IsItsSlave, Shows, pieces_of, IsSound}
 use Rattle.tl_params.proofs.OneOwner.{one_owner}
-use Rattle.dip_plan.specs.LeafLaws.{IsSoundLeaf}
+use Rattle.dip_plan.proofs.LeafLaws.{IsSoundLeaf}
 use Rattle.dip_plan.specs.Outputs.{GoesOn, IsAtSink, OutputLaw}
 use Rattle.dip_plan.proofs.Members.{contains_in}
 use Rattle.dip_plan.proofs.Upward.{slaves_upward, mapped}

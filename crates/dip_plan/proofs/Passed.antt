@@ -34,8 +34,8 @@ use Rattle.dip_checks.specs.Checks.{kind_is_unruled, unruled_nodes, bind_is_turn
 use Rattle.dip_graph.specs.Kinds.{is_sink, is_source}
 use Rattle.dip_graph.specs.Edges.{edges_at}
 use Rattle.dip_checks.proofs.Disjointness.{edges_apart}
-use Rattle.dip_plan.specs.PlanLaws.{KindJoins}
-use Rattle.dip_plan.specs.Judged.{IsJudged}
+use Rattle.dip_plan.proofs.PlanLaws.{KindJoins}
+use Rattle.dip_plan.proofs.Judged.{IsJudged}
 use Rattle.dip_plan.proofs.Members.{none_pass}
 use Rattle.dip_plan.proofs.Ranks.{follows}
 use Rattle.dip_plan.proofs.Sums.{counted}

@@ -20,7 +20,7 @@ use Rattle.dip_negotiate.specs.Negotiation.{IsNegotiable}
 use Rattle.dip_negotiate.proofs.Ordered.{listed_joined}
 use Rattle.dip_graph.specs.Edges.{edges_to, edges_from}
 use Rattle.dip_plan.specs.DesignPlans.{kind_leaves, plan_of}
-use Rattle.dip_plan.specs.PlanLaws.{AcyclicLaw}
+use Rattle.dip_plan.proofs.PlanLaws.{AcyclicLaw}
 use Rattle.dip_plan.proofs.Members.{contains_in, place_is, none_pass}
 use Rattle.dip_plan.proofs.Parts.{by_node, IsBetween, of_kind}
 

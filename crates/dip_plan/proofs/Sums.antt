@@ -26,7 +26,7 @@ use Rattle.dip_stars.specs.declared.rounds.Counted.{Counted}
 use Rattle.dip_stars.specs.Rounds.{decider, decider_of, number_by, first_count, first_counts, next_number, next_count, next_counts, after_rounds, known_number, sum_to, sum_from}
 use Rattle.dip_stars.specs.Edges.{design_counts, is_node, decides_negative, ruled_is_unfilled, kind_is_unfilled, node_is_unfilled, unfilled, copies, outs, ins, edge_behind, with_copies, edges_behind, edges_of}
 use Rattle.dip_graph.specs.Edges.{edges_to, edges_from}
-use Rattle.dip_plan.specs.PlanLaws.{KindHas, HasItsPorts, CountedLaw}
+use Rattle.dip_plan.proofs.PlanLaws.{KindHas, HasItsPorts, CountedLaw}
 use Rattle.dip_plan.proofs.Members.{none_pass}
 
 -- ---- how many items pass a test

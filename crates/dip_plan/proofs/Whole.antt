@@ -49,10 +49,10 @@ use Rattle.dip_checks.specs.Checks.{has_wrong_ids, share_ids, masters_are_wrong,
 use Rattle.tl_params.specs.Owners.{sets_of as all_sets}
 use Rattle.tl_params.specs.Apart.{HasDisjointSets}
 use Rattle.dip_plan.specs.DesignPlans.{kind_leaves, source_ports, sink_ports, plan_edge, plan_edges, plan_of}
-use Rattle.dip_plan.specs.PlanLaws.{KindHas}
+use Rattle.dip_plan.proofs.PlanLaws.{KindHas}
 use Rattle.dip_graph.specs.WellStated.{IsShortName, IsStatedPort, IsStatedKind, IsStatedNode, IsWellStated}
-use Rattle.dip_plan.specs.Judged.{IsJudged}
-use Rattle.dip_plan.specs.LeafLaws.{IsSoundLeaf}
+use Rattle.dip_plan.proofs.Judged.{IsJudged}
+use Rattle.dip_plan.proofs.LeafLaws.{IsSoundLeaf}
 use Rattle.dip_plan.specs.SoundLaw.{HasSizes, SoundPlanLaw}
 use Rattle.dip_plan.proofs.Members.{place_is}
 use Rattle.dip_plan.proofs.Parts as parts

@@ -23,7 +23,7 @@ use Rattle.dip_graph.specs.Edges.{edges_to, edges_from}
 use Rattle.dip_checks.specs.Checks.{masters_are_wrong, edge_is_misaligned, beats_differ, edges_in, solution_of, design_checks}
 use Rattle.dip_graph.specs.Edges.{edges_at}
 use Rattle.tl_params.specs.Apart.{HasDisjointSets}
-use Rattle.dip_plan.specs.PlanLaws.{EachJoins, KindHas, HasItsPorts}
+use Rattle.dip_plan.proofs.PlanLaws.{EachJoins, KindHas, HasItsPorts}
 
 pub record IsJudged (rules : List StatedRule) (design : Design) (edges : List Edge) (solution : Solution) : Type 0 where
   pub negotiable : IsNegotiable design edges
