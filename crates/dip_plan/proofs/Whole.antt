@@ -243,7 +243,7 @@ module _ (rules : List StatedRule) (design : Design) (edges : List Edge) (soluti
   abbrev plan : Plan
   plan = plan_of rules design edges solution
 
-  long : length plan.edges ≡ length edges
+  pub long : length plan.edges ≡ length edges
   long = zipped solution.down solution.up (j.down.long ∙ sym j.up.long) ∙ j.up.long
 
   within_down : (x : ℕ) → x < length edges → x < length solution.down
@@ -277,19 +277,19 @@ module _ (rules : List StatedRule) (design : Design) (edges : List Edge) (soluti
 
   -- ---- the ports
 
-  record IsSinkPort (port : PlanPort) : Type 0 where
-    entry : NodeEntry
-    beat : ℕ
-    ports : List (List Pattern)
-    supports : Ops
-    is : slice_get design.nodes port.node ≡ Some entry
-    kind : entry.kind ≡ Sink beat ports supports
-    name : port.name ≡ entry.name
-    edge : Edge
-    at : slice_get edges port.edge ≡ Some edge
-    to : edge.to ≡ port.node
-    to_port : edge.to_port ≡ port.port
-    low : port.port < length ports
+  pub record IsSinkPort (port : PlanPort) : Type 0 where
+    pub entry : NodeEntry
+    pub beat : ℕ
+    pub ports : List (List Pattern)
+    pub supports : Ops
+    pub is : slice_get design.nodes port.node ≡ Some entry
+    pub kind : entry.kind ≡ Sink beat ports supports
+    pub name : port.name ≡ entry.name
+    pub edge : Edge
+    pub at : slice_get edges port.edge ≡ Some edge
+    pub to : edge.to ≡ port.node
+    pub to_port : edge.to_port ≡ port.port
+    pub low : port.port < length ports
 
   sinks_at : (node : ℕ) (entry : NodeEntry) → slice_get design.nodes node ≡ Some entry → All IsSinkPort (sink_ports entry.name node entry.kind edges)
   sinks_at node entry is = at entry.kind refl
@@ -311,22 +311,22 @@ module _ (rules : List StatedRule) (design : Design) (edges : List Edge) (soluti
           none : (k : ℕ) → k ≡ 0 + k
           none k = omega arith
 
-  all_sinks : All IsSinkPort plan.sinks
+  pub all_sinks : All IsSinkPort plan.sinks
   all_sinks = by_node IsSinkPort sink_ports edges 0 design.nodes (λ k entry is. let z : k ≡ 0 + k = omega arith in subst (λ n. All IsSinkPort (sink_ports entry.name n entry.kind edges)) z (sinks_at k entry is))
 
-  record IsSourcePort (port : PlanPort) : Type 0 where
-    entry : NodeEntry
-    ports : ℕ
-    ids : ℕ
-    emits : Ops
-    is : slice_get design.nodes port.node ≡ Some entry
-    kind : entry.kind ≡ Source ports ids emits
-    name : port.name ≡ entry.name
-    edge : Edge
-    at : slice_get edges port.edge ≡ Some edge
-    from : edge.from ≡ port.node
-    from_port : edge.from_port ≡ port.port
-    low : port.port < ports
+  pub record IsSourcePort (port : PlanPort) : Type 0 where
+    pub entry : NodeEntry
+    pub ports : ℕ
+    pub ids : ℕ
+    pub emits : Ops
+    pub is : slice_get design.nodes port.node ≡ Some entry
+    pub kind : entry.kind ≡ Source ports ids emits
+    pub name : port.name ≡ entry.name
+    pub edge : Edge
+    pub at : slice_get edges port.edge ≡ Some edge
+    pub from : edge.from ≡ port.node
+    pub from_port : edge.from_port ≡ port.port
+    pub low : port.port < ports
 
   sources_at : (node : ℕ) (entry : NodeEntry) → slice_get design.nodes node ≡ Some entry → All IsSourcePort (source_ports entry.name node entry.kind edges)
   sources_at node entry is = at entry.kind refl
@@ -348,7 +348,7 @@ module _ (rules : List StatedRule) (design : Design) (edges : List Edge) (soluti
           none : (k : ℕ) → k ≡ 0 + k
           none k = omega arith
 
-  all_sources : All IsSourcePort plan.sources
+  pub all_sources : All IsSourcePort plan.sources
   all_sources = by_node IsSourcePort source_ports edges 0 design.nodes (λ k entry is. let z : k ≡ 0 + k = omega arith in subst (λ n. All IsSourcePort (source_ports entry.name n entry.kind edges)) z (sources_at k entry is))
 
   -- ---- given and taken

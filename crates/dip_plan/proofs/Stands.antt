@@ -1,0 +1,167 @@
+-- The plan of a design stands to it as it should: its edges and its ports.
+use Rattle.std.proofs.Common.{◌≡◌, ℕ, zero, suc, ◌+◌, ◌<◌, List, [], ◌∷◌, length, Some, refl, sym, ap, ◌∙◌, subst, arith, inl, inr}
+use Rattle.std.specs.Prelude.{slice_get, All, AllPairs, Contains}
+use Rattle.std.proofs.lemmas.Option.{slice_get-get_or, get_or_from_slice_get}
+use Rattle.std.proofs.lemmas.List.Elements.{All-weaker, Contains-append_left, Contains-append_right}
+use Rattle.tl_params.specs.declared.ports.DownPort.{DownPort}
+use Rattle.tl_params.specs.declared.ports.UpPort.{UpPort}
+use Rattle.tl_edge.specs.declared.plan.PlanEdge.{PlanEdge}
+use Rattle.tl_edge.specs.declared.plan.PlanPort.{PlanPort}
+use Rattle.tl_edge.specs.declared.plan.Plan.{Plan}
+use Rattle.tl_edge.specs.Plans.{edge_at}
+use Rattle.dip_graph.specs.declared.design.NodeKind.{NodeKind}
+use Rattle.dip_graph.specs.declared.design.NodeKind.TheVariants.{Source, Sink, Ruled}
+use Rattle.dip_graph.specs.declared.design.NodeEntry.{NodeEntry}
+use Rattle.dip_graph.specs.declared.design.Design.{Design}
+use Rattle.dip_graph.specs.declared.edges.Edge.{Edge}
+use Rattle.dip_graph.specs.Edges.{edges_to, edges_from}
+use Rattle.dip_graph.specs.WellStated.{IsWellStated}
+use Rattle.dip_rule.specs.Stated.{StatedRule}
+use Rattle.dip_negotiate.specs.declared.solution.Solution.{Solution}
+use Rattle.dip_plan.specs.DesignPlans.{ports_on, source_ports, sink_ports, ports_from, plan_edge, plan_edges, plan_of}
+use Rattle.dip_plan.specs.SoundLaw.{HasSizes}
+use Rattle.dip_plan.specs.Standing.{source_count, sink_count, HasPort, IsPortAt, ArePorts, IsEdgeOf, StandsTo}
+use Rattle.dip_plan.proofs.Judged.{IsJudged}
+use Rattle.dip_plan.proofs.PlanLaws.{KindHas}
+use Rattle.dip_plan.proofs.Ports.{PortsOf, IsBefore, port_on, in_order, sources_keep, sinks_keep}
+use Rattle.dip_plan.proofs.Whole.{IsSourcePort, IsSinkPort, all_sources, all_sinks, long}
+
+-- ---- each edge
+
+edge_of : (number : ℕ) (downs : List DownPort) (ups : List UpPort) (edge : PlanEdge) (down : DownPort) (up : UpPort)
+    → slice_get (plan_edges downs ups) number ≡ Some edge → slice_get downs number ≡ Some down → slice_get ups number ≡ Some up → IsEdgeOf edge down up
+edge_of number [] ups edge down up e d u = absurd cc
+edge_of number (x ∷ downs) [] edge down up e d u = absurd cc
+edge_of zero (x ∷ downs) (y ∷ ups) edge down up e d u =
+    let p : x ≡ down = cc in
+    let q : y ≡ up = cc in
+    let r : plan_edge x y ≡ edge = cc in
+    subst (λ (z : PlanEdge). IsEdgeOf z down up) r
+    (subst (λ (a : DownPort). IsEdgeOf (plan_edge a y) down up) (sym p)
+    (subst (λ (b : UpPort). IsEdgeOf (plan_edge down b) down up) (sym q) (record { slaves = refl; ids = refl; bundle = refl })))
+edge_of (suc number) (x ∷ downs) (y ∷ ups) edge down up e d u = edge_of number downs ups edge down up e d u
+
+-- ---- each port of a node is one of the plan's
+
+on_node : (name : List ℕ) (node from : ℕ) (edges : List ℕ) (place edge : ℕ) → slice_get edges place ≡ Some edge → Contains (ports_on name node from edges) (port_on name node (from + place) edge)
+on_node name node from [] place edge e = absurd cc
+on_node name node from (x ∷ edges) zero edge e =
+    let same : x ≡ edge = cc in
+    let here : from ≡ from + 0 = omega arith in
+    (0, omega arith, ap (port_on name node from) same ∙ ap (λ p. port_on name node p edge) here)
+on_node name node from (x ∷ edges) (suc place) edge e =
+    let later : from + 1 + place ≡ from + suc place = omega arith in
+    subst (λ p. Contains (ports_on name node from (x ∷ edges)) (port_on name node p edge)) later
+    (Contains-append_right (port_on name node from x ∷ []) (ports_on name node (from + 1) edges) (port_on name node (from + 1 + place) edge) (on_node name node (from + 1) edges place edge e))
+
+among_nodes : (ports : PortsOf) (edges : List Edge) (first : ℕ) (nodes : List NodeEntry) (place : ℕ) (entry : NodeEntry) (at : PlanPort) → slice_get nodes place ≡ Some entry
+    → Contains (ports entry.name (first + place) entry.kind edges) at → Contains (ports_from ports edges first nodes) at
+among_nodes ports edges first [] place entry at e h = absurd cc
+among_nodes ports edges first (x ∷ nodes) zero entry at e h =
+    let same : entry ≡ x = cc in
+    let here : first + 0 ≡ first = omega arith in
+    Contains-append_left (ports x.name first x.kind edges) (ports_from ports edges (first + 1) nodes) at
+    (subst (λ (n : ℕ). Contains (ports x.name n x.kind edges) at) here (subst (λ (y : NodeEntry). Contains (ports y.name (first + 0) y.kind edges) at) same h))
+among_nodes ports edges first (x ∷ nodes) (suc place) entry at e h =
+    let later : first + suc place ≡ first + 1 + place = omega arith in
+    Contains-append_right (ports x.name first x.kind edges) (ports_from ports edges (first + 1) nodes) at
+    (among_nodes ports edges (first + 1) nodes place entry at e (subst (λ (n : ℕ). Contains (ports entry.name n entry.kind edges) at) later h))
+
+at_numbers : (ports : List PlanPort) → AllPairs IsBefore ports → AllPairs (λ (a b : PlanPort). a.node ≡ b.node → a.port ≡ b.port → ⊥) ports
+at_numbers ports rise i j d before within = apart (rise i j d before within)
+  where
+    apart : {a b : PlanPort} → IsBefore a b → a.node ≡ b.node → a.port ≡ b.port → ⊥
+    apart (inl l) e p = absurd (omega arith)
+    apart (inr l) e p = let q = l.1 in absurd (omega arith)
+
+module _ (rules : List StatedRule) (design : Design) (edges : List Edge) (solution : Solution) (w : IsWellStated design) (j : IsJudged rules design edges solution) (sizes : All HasSizes solution.up) where
+  abbrev plan : Plan
+  plan = plan_of rules design edges solution
+
+  -- ---- sources
+
+  abbrev IsSource : PlanPort → Type 0
+  IsSource = IsPortAt source_count (λ edge. edge.from) (λ edge. edge.from_port) design.nodes edges
+
+  source : (at : PlanPort) → IsSourcePort rules design edges solution w j sizes at → IsSource at
+  source at s = record {
+    has = record { entry = s.entry; is = s.is; low = subst (λ (kind : NodeKind). at.port < source_count kind) (sym s.kind) s.low };
+    name = s.name;
+    edge = s.edge;
+    is = s.at;
+    end_node = s.from;
+    end_port = s.from_port;
+  }
+
+  a_source : (n p : ℕ) → HasPort source_count design.nodes n p → (at : PlanPort) × Contains plan.sources at × (at.node ≡ n) × (at.port ≡ p)
+  a_source n p h = at h.entry.kind refl h.low
+    where
+      at : (kind : NodeKind) → h.entry.kind ≡ kind → p < source_count kind → (at : PlanPort) × Contains plan.sources at × (at.node ≡ n) × (at.port ≡ p)
+      at (Sink beat ports supports) e l = absurd (omega arith)
+      at (Ruled name args) e l = absurd (omega arith)
+      at (Source ports ids emits) e l =
+          let many : length (edges_from n edges) ≡ ports = subst (λ kind. KindHas rules edges n kind) e (j.has n h.entry h.is) in
+          let k = slice_get-get_or (edges_from n edges) p 0 (omega arith) in
+          let from : n ≡ 0 + n = omega arith in
+          let first : 0 + p ≡ p = omega arith in
+          let own = on_node h.entry.name (0 + n) 0 (edges_from n edges) p _ k in
+          (_, among_nodes source_ports edges 0 design.nodes n h.entry _ h.is
+          (subst (λ (kind : NodeKind). Contains (source_ports h.entry.name (0 + n) kind edges) _) (sym e)
+          (subst (λ (m : ℕ). Contains (ports_on h.entry.name (0 + n) 0 (edges_from m edges)) _) from own)), sym from, first)
+
+  sources : ArePorts source_count (λ edge. edge.from) (λ edge. edge.from_port) design.nodes edges plan.sources
+  sources = record {
+    each = All-weaker (IsSourcePort rules design edges solution w j sizes) IsSource source plan.sources (all_sources rules design edges solution w j sizes);
+    once = at_numbers plan.sources (in_order source_ports edges (sources_keep edges) 0 design.nodes);
+    all = a_source;
+  }
+
+  -- ---- sinks
+
+  abbrev IsSink : PlanPort → Type 0
+  IsSink = IsPortAt sink_count (λ edge. edge.to) (λ edge. edge.to_port) design.nodes edges
+
+  sink : (at : PlanPort) → IsSinkPort rules design edges solution w j sizes at → IsSink at
+  sink at s = record {
+    has = record { entry = s.entry; is = s.is; low = subst (λ (kind : NodeKind). at.port < sink_count kind) (sym s.kind) s.low };
+    name = s.name;
+    edge = s.edge;
+    is = s.at;
+    end_node = s.to;
+    end_port = s.to_port;
+  }
+
+  a_sink : (n p : ℕ) → HasPort sink_count design.nodes n p → (at : PlanPort) × Contains plan.sinks at × (at.node ≡ n) × (at.port ≡ p)
+  a_sink n p h = at h.entry.kind refl h.low
+    where
+      at : (kind : NodeKind) → h.entry.kind ≡ kind → p < sink_count kind → (at : PlanPort) × Contains plan.sinks at × (at.node ≡ n) × (at.port ≡ p)
+      at (Source ports ids emits) e l = absurd (omega arith)
+      at (Ruled name args) e l = absurd (omega arith)
+      at (Sink beat ports supports) e l =
+          let many : length (edges_to n edges) ≡ length ports = subst (λ kind. KindHas rules edges n kind) e (j.has n h.entry h.is) in
+          let k = slice_get-get_or (edges_to n edges) p 0 (omega arith) in
+          let from : n ≡ 0 + n = omega arith in
+          let first : 0 + p ≡ p = omega arith in
+          let own = on_node h.entry.name (0 + n) 0 (edges_to n edges) p _ k in
+          (_, among_nodes sink_ports edges 0 design.nodes n h.entry _ h.is
+          (subst (λ (kind : NodeKind). Contains (sink_ports h.entry.name (0 + n) kind edges) _) (sym e)
+          (subst (λ (m : ℕ). Contains (ports_on h.entry.name (0 + n) 0 (edges_to m edges)) _) from own)), sym from, first)
+
+  sinks : ArePorts sink_count (λ edge. edge.to) (λ edge. edge.to_port) design.nodes edges plan.sinks
+  sinks = record {
+    each = All-weaker (IsSinkPort rules design edges solution w j sizes) IsSink sink plan.sinks (all_sinks rules design edges solution w j sizes);
+    once = at_numbers plan.sinks (in_order sink_ports edges (sinks_keep edges) 0 design.nodes);
+    all = a_sink;
+  }
+
+  pub stands : StandsTo design edges solution plan
+  stands = record {
+    name = refl;
+    policy = refl;
+    down = j.down.long;
+    up = j.up.long;
+    edges = long rules design edges solution w j sizes;
+    edge = λ number edge down up. edge_of number solution.down solution.up edge down up;
+    sources = sources;
+    sinks = sinks;
+  }
