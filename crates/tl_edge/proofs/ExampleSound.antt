@@ -19,7 +19,7 @@ use Rattle.tl_params.specs.Arguments.{is_width}
 use Rattle.tl_params.specs.Owners.{sets_of}
 use Rattle.tl_edge.specs.declared.plan.Leaf.{Leaf}
 use Rattle.tl_edge.specs.declared.plan.PlanPort.{PlanPort}
-use Rattle.tl_edge.specs.Plans.{given_edges, taken_edges, edge_at, ins_of, outs_of, beat_of}
+use Rattle.tl_edge.specs.Plans.{given_edges, taken_edges, edge_at, ins_of, outs_of, width_of}
 use Rattle.tl_edge.specs.SoundPlans.{IsSound, IsSoundEdge, IsAligned, IsSmall, HasRanges, HasShape, Carries, Shows, MovesIds, LeavesIds, IsItsSlave, AreApart, IsShort}
 use Rattle.tl_edge.specs.ExamplePlan.{example, edge, example_port, memory, device, reads_and_writes, from_core, to_crossbar, to_buffer, to_memory, to_width, to_fragmenter, to_device, shrinker, crossbar, buffer, width_adapter, fragmenter, core, ram, uart}
 use Rattle.tl_edge.proofs.Ways.{each_once, no_way_back, Rises}
@@ -105,12 +105,12 @@ small_device_fits = record {
 
 -- ---- edges
 
-sound_edge : (beat ids : ℕ) (slaves : List Slave) → IsTrue (is_width beat) → 1 ≤ ids → ids ≤ 1024 → All IsFit slaves → AllPairs Disjoint (sets_of slaves)
-    → IsSoundEdge (edge beat ids slaves)
-sound_edge beat ids slaves width some few fit apart = record {
+sound_edge : (width ids : ℕ) (slaves : List Slave) → IsTrue (is_width width) → 1 ≤ ids → ids ≤ 1024 → All IsFit slaves → AllPairs Disjoint (sets_of slaves)
+    → IsSoundEdge (edge width ids slaves)
+sound_edge width ids slaves allowed some few fit apart = record {
   some_ids = some;
   few_ids = few;
-  beat = width;
+  width = allowed;
   bundle = refl;
   addressed = λ k d below. (fit k d below).addressed;
   sets = λ k d below. (fit k d below).sets;
@@ -166,28 +166,28 @@ unfolding ones
 carries = five (λ (leaf : Leaf). Carries leaf.template leaf.args (ins_of example leaf) (outs_of example leaf)) shrinker crossbar buffer width_adapter fragmenter
     (record {
       slaves = one (Shows None (to_crossbar ∷ [])) from_core refl;
-      beats = pair (λ a b. beat_of a ≡ beat_of b) from_core to_crossbar refl;
+      widths = pair (λ a b. width_of a ≡ width_of b) from_core to_crossbar refl;
       arguments = (2, refl);
     })
     (record {
       slaves = one (Shows None (to_buffer ∷ to_width ∷ [])) to_crossbar refl;
-      beats = triple (λ a b. beat_of a ≡ beat_of b) to_crossbar to_buffer to_width refl refl refl;
+      widths = triple (λ a b. width_of a ≡ width_of b) to_crossbar to_buffer to_width refl refl refl;
       arguments = tt;
     })
     (record {
       slaves = one (Shows None (to_memory ∷ [])) to_buffer refl;
-      beats = pair (λ a b. beat_of a ≡ beat_of b) to_buffer to_memory refl;
+      widths = pair (λ a b. width_of a ≡ width_of b) to_buffer to_memory refl;
       arguments = tt;
     })
     (record {
       slaves = one (Shows None (to_fragmenter ∷ [])) to_width refl;
-      beats = two (λ edge. IsTrue (is_width (beat_of edge))) to_width to_fragmenter refl refl;
+      widths = two (λ edge. IsTrue (is_width (width_of edge))) to_width to_fragmenter refl refl;
       arguments = tt;
     })
     (record {
       slaves = one (Shows (Some (size_range 1 4)) (to_device ∷ [])) to_fragmenter refl;
-      beats = pair (λ a b. beat_of a ≡ beat_of b) to_fragmenter to_device refl;
-      arguments = one (λ edge. beat_of edge ≤ 4) to_device (omega arith);
+      widths = pair (λ a b. width_of a ≡ width_of b) to_fragmenter to_device refl;
+      arguments = one (λ edge. width_of edge ≤ 4) to_device (omega arith);
     })
 
 ids : All (λ (leaf : Leaf). MovesIds leaf.template leaf.args (ins_of example leaf) (outs_of example leaf)) example.leaves

@@ -127,7 +127,7 @@ same_requests width [] (other ∷ others) bus all all_too e = absurd (nil_not_co
 same_requests width (request ∷ requests) [] bus all all_too e = absurd (nil_not_cons _ _ (sym e))
 same_requests width (request ∷ requests) (other ∷ others) bus all all_too e =
     let parts = cons_parts _ _ _ _ e in
-    let one : request ≡ other = same_law.requests width request other bus (All-head IsWholeRequest request requests all) (All-head IsWholeRequest other others all_too) parts.0 in
+    let one : request ≡ other = same_law.requests width request other (record { bus = bus; whole = All-head IsWholeRequest request requests all }) (record { bus = bus; whole = All-head IsWholeRequest other others all_too }) parts.0 in
     let rest : requests ≡ others = same_requests width requests others bus (All-tail IsWholeRequest request requests all) (All-tail IsWholeRequest other others all_too) parts.1 in
     ap (λ (r : Request). r ∷ requests) one ∙ ap (λ (rs : List Request). other ∷ rs) rest
 
@@ -166,12 +166,10 @@ short_response width front begins = elim begins [
 ]
 
 tells_same : (width : ℕ) (one other : Exchange) → IsTrue (is_width width) → IsExchange one → IsExchange other → beats_back width one ≡ beats_back width other → TellsSame one other
-tells_same width one other bus is is_too e same =
-    let P : Request → Type 0 = λ request. IsWholeResponse request other.response in
-    let back_too : IsWholeResponse one.request other.response = subst P (sym same) is_too.response in
-    let beats_too : beats_of_response width one.request.address one.response ≡ beats_of_response width one.request.address other.response =
-    e ∙ sym (ap (λ (request : Request). beats_of_response width request.address other.response) same) in
-    same_law.responses width one.request one.response other.response bus is.request is.response back_too beats_too
+tells_same width one other bus is is_too e =
+    same_law.responses width one.request other.request one.response other.response
+    (record { sent = record { bus = bus; whole = is.request }; whole = is.response })
+    (record { sent = record { bus = bus; whole = is_too.request }; whole = is_too.response }) e
 
 same_responses : (width : ℕ) (exchanges others : List Exchange) → IsTrue (is_width width) → All IsExchange exchanges → All IsExchange others
     → map (beats_back width) exchanges ≡ map (beats_back width) others → AllZip TellsSame exchanges others

@@ -63,9 +63,9 @@ pub record BitsLaw : Type 0 where
 
 -- the bundle of an edge with some slaves, ids from 0 to below an end, and a bus of some bytes
 abbrev pub bundle : List Slave → ℕ → ℕ → Bundle
-bundle slaves ids beat = record {
+bundle slaves ids width = record {
   address_bits = bits_for (greatest_address slaves);
-  data_bytes = beat;
+  data_bytes = width;
   source_bits = bits_for (ids - 1);
   size_bits = bits_for (log_of (largest_transfer slaves));
 }

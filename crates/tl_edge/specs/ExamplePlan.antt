@@ -46,7 +46,7 @@ device sizes = record {
 
 -- an edge with some slaves, ids from 0 to below an end, and a bus of some bytes
 abbrev pub edge : ℕ → ℕ → List Slave → PlanEdge
-edge beat ids slaves = record { bundle = bundle slaves ids beat; slaves = slaves; ids = ids }
+edge width ids slaves = record { bundle = bundle slaves ids width; slaves = slaves; ids = ids }
 
 -- a leaf of a template
 abbrev pub leaf : Template → List ℕ → List ℕ → List ℕ → Leaf

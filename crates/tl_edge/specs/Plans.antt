@@ -35,8 +35,8 @@ abbrev pub joined_slaves : List PlanEdge → List Slave
 joined_slaves edges = flat_map (λ (edge : PlanEdge). edge.slaves) edges
 
 -- the width of an edge's bus, in bytes
-abbrev pub beat_of : PlanEdge → ℕ
-beat_of edge = edge.bundle.data_bytes
+abbrev pub width_of : PlanEdge → ℕ
+width_of edge = edge.bundle.data_bytes
 
 -- ---- who puts requests onto edges, and who takes them
 

@@ -66,9 +66,9 @@ pub record SpellsBackUpTo (width : ℕ) (exchanges : List Exchange) (front beats
 
 -- ---- what is spelled is determined by the beats
 
--- two responses to one request tell the same
+-- two responses tell the same, whichever requests they answer
 abbrev pub TellsSame : Exchange → Exchange → Type 0
-TellsSame one other = one.request ≡ other.request → told one.response ≡ told other.response
+TellsSame one other = told one.response ≡ told other.response
 
 -- beats in a row are those of one list of messages only, but for the data of denied responses
 pub record SpellingLaw : Type 0 where

@@ -1,4 +1,4 @@
-ghost use Rattle.tl_edge.specs.BeatLaws.{HeadsLaw, JoinLaw, LanesLaw, SameLaw};
+ghost use Rattle.tl_edge.specs.BeatLaws.{ActiveLaw, HeadsLaw, JoinLaw, LanesLaw, SameLaw};
 ghost use Rattle.tl_edge.specs.Bundles.{BitsLaw};
 ghost use Rattle.tl_edge.specs.Spelling.{PrefixLaw, SpellingLaw};
 
@@ -13,6 +13,11 @@ pub fn heads_law()
     ensures { HeadsLaw }
 {}
 
+/// Which lanes are active, and the mask that has them.
+pub fn active_law()
+    ensures { ActiveLaw }
+{}
+
 /// What each lane of each beat of a message holds.
 pub fn lanes_law()
     ensures { LanesLaw }
@@ -23,12 +28,12 @@ pub fn join_law()
     ensures { JoinLaw }
 {}
 
-/// Messages with the same beats are the same.
+/// Messages with the same beats are the same, but for the data of a denied response.
 pub fn same_law()
     ensures { SameLaw }
 {}
 
-/// A list of beats spells one list of messages at most.
+/// A list of beats spells one list of messages at most, but for the data of denied responses.
 pub fn spelling_law()
     ensures { SpellingLaw }
 {}
