@@ -5,6 +5,7 @@ mod ExampleSound
 pub mod Greatest
 pub mod Heads
 pub mod LaneByLane
+pub mod Once
 pub mod Reading
 pub mod Spelled
 pub mod Ways

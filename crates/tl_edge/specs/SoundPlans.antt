@@ -19,7 +19,7 @@ use Rattle.tl_edge.specs.declared.plan.PlanEdge.{PlanEdge}
 use Rattle.tl_edge.specs.declared.plan.PlanPort.{PlanPort}
 use Rattle.tl_edge.specs.declared.plan.Plan.{Plan}
 use Rattle.tl_edge.specs.Bundles.{bundle}
-use Rattle.tl_edge.specs.Plans.{edge_at, ins_of, outs_of, joined_slaves, width_of, given_edges, taken_edges, times, Reaches}
+use Rattle.tl_edge.specs.Plans.{edge_at, ins_of, outs_of, joined_slaves, width_of, given_edges, taken_edges, times, NoneReturns}
 
 -- ---- an edge by itself
 
@@ -139,7 +139,7 @@ pub record IsSound (plan : Plan) : Type 0 where
   pub given_once : (edge : ℕ) → edge < length plan.edges → times edge (given_edges plan) ≡ 1
   pub taken_once : (edge : ℕ) → edge < length plan.edges → times edge (taken_edges plan) ≡ 1
   pub shaped : All (λ (leaf : Leaf). HasShape leaf.template leaf.ins leaf.outs) plan.leaves
-  pub acyclic : (leaf : ℕ) → Reaches plan leaf leaf → ⊥
+  pub acyclic : NoneReturns plan
   pub edges : All IsSoundEdge plan.edges
   pub carries :
       All (λ (leaf : Leaf). Carries leaf.template leaf.args (ins_of plan leaf) (outs_of plan leaf)) plan.leaves

@@ -21,6 +21,8 @@ pub use message::{
     Flags, Request, Requests, Response, Responses, ack_of, brings_data, has_data, has_flags,
     has_param,
 };
-pub use plan::{Leaf, Leaves, Plan, PlanEdge, PlanEdges, PlanPort, PlanPorts, sound_plan_law};
+pub use plan::{
+    Leaf, Leaves, Plan, PlanEdge, PlanEdges, PlanPort, PlanPorts, ends_law, sound_plan_law, ways_law,
+};
 pub use request::{a_beat, a_beats, beats};
 pub use response::{d_beat, d_beats, response_beats};
