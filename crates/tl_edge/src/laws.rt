@@ -1,6 +1,6 @@
 ghost use Rattle.tl_edge.specs.BeatLaws.{ActiveLaw, HeadsLaw, JoinLaw, LanesLaw, SameLaw};
 ghost use Rattle.tl_edge.specs.Bundles.{BitsLaw};
-ghost use Rattle.tl_edge.specs.Spelling.{PrefixLaw, SpellingLaw};
+ghost use Rattle.tl_edge.specs.Spelling.{MoreLaw, NextLaw, PrefixLaw, SpellingLaw};
 
 /// What the widths of a bundle's wires mean: they are least numbers of bits, of the greatest address that a
 /// slave answers and of the exponent of the largest transfer that one supports.
@@ -42,4 +42,14 @@ pub fn spelling_law()
 /// the next one.
 pub fn prefix_law()
     ensures { PrefixLaw }
+{}
+
+/// Each of some beats in a row is a beat of one of their messages: which one, and with which number.
+pub fn next_law()
+    ensures { NextLaw }
+{}
+
+/// What beats in a row spell when one more comes.
+pub fn more_law()
+    ensures { MoreLaw }
 {}
