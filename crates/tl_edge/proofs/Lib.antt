@@ -4,6 +4,7 @@ pub mod Digits
 mod ExampleSound
 pub mod Greatest
 pub mod Heads
+pub mod Holding
 pub mod LaneByLane
 pub mod Once
 pub mod Reading

@@ -1,11 +1,17 @@
 ghost use Rattle.tl_edge.specs.BeatLaws.{ActiveLaw, HeadsLaw, JoinLaw, LanesLaw, SameLaw};
-ghost use Rattle.tl_edge.specs.Bundles.{BitsLaw};
+ghost use Rattle.tl_edge.specs.Bundles.{BitsLaw, BundleLaw};
 ghost use Rattle.tl_edge.specs.Spelling.{MoreLaw, NextLaw, PrefixLaw, SpellingLaw};
 
 /// What the widths of a bundle's wires mean: they are least numbers of bits, of the greatest address that a
 /// slave answers and of the exponent of the largest transfer that one supports.
 pub fn bits_law()
     ensures { BitsLaw }
+{}
+
+/// The wires of a bundle hold the ids of its edge, the addresses of its slaves and the sizes of their transfers,
+/// with no bit too many for ids and addresses.
+pub fn bundle_law()
+    ensures { BundleLaw }
 {}
 
 /// The control fields are constant over the beats of a message, of which there are as many as stated.

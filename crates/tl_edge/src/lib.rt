@@ -15,8 +15,8 @@ pub use beat::{ABeat, ABeats, DBeat, DBeats, Event, History, Tag, What};
 pub use bundle::{Bundle, bundle_of};
 pub use lanes::active_lanes;
 pub use laws::{
-    active_law, bits_law, heads_law, join_law, lanes_law, more_law, next_law, prefix_law, same_law,
-    spelling_law,
+    active_law, bits_law, bundle_law, heads_law, join_law, lanes_law, more_law, next_law,
+    prefix_law, same_law, spelling_law,
 };
 pub use message::{
     Flags, Request, Requests, Response, Responses, ack_of, brings_data, has_data, has_flags,
