@@ -6,6 +6,7 @@ pub mod Greatest
 pub mod Heads
 pub mod Holding
 pub mod LaneByLane
+pub mod Legality
 pub mod Once
 pub mod Reading
 pub mod Spelled

@@ -1,5 +1,6 @@
 ghost use Rattle.tl_edge.specs.BeatLaws.{ActiveLaw, HeadsLaw, JoinLaw, LanesLaw, SameLaw};
 ghost use Rattle.tl_edge.specs.Bundles.{BitsLaw, BundleLaw};
+ghost use Rattle.tl_edge.specs.Legal.{LegalLaw};
 ghost use Rattle.tl_edge.specs.Spelling.{MoreLaw, NextLaw, PrefixLaw, SpellingLaw};
 
 /// What the widths of a bundle's wires mean: they are least numbers of bits, of the greatest address that a
@@ -58,4 +59,9 @@ pub fn next_law()
 /// What beats in a row spell when one more comes.
 pub fn more_law()
     ensures { MoreLaw }
+{}
+
+/// A request that is legal by masters is legal on their edge, and an owned address has at most 48 bits.
+pub fn legal_law()
+    ensures { LegalLaw }
 {}
