@@ -62,7 +62,7 @@ pub record IsOnLanes (base width size address number : ℕ) (xs : List ℕ) (n :
   pub at : (lane : ℕ) → lane < lane_count width size → lane_of base (first_lane width size address + lane) n ≡ get_or xs (number * width + lane) 0
   pub other : (lane : ℕ) → (IsActive width size address lane → ⊥) → lane_of base lane n ≡ 0
 
-get_or-part : (width number j : ℕ) (xs : List ℕ) → j < width → get_or (part width number xs) j 0 ≡ get_or xs (number * width + j) 0
+pub get_or-part : (width number j : ℕ) (xs : List ℕ) → j < width → get_or (part width number xs) j 0 ≡ get_or xs (number * width + j) 0
 get_or-part width number j xs h = get_or-take width (drop (number * width) xs) j 0 h ∙ get_or-drop (number * width) xs j 0
 
 pub part_digits : (base width number : ℕ) (xs : List ℕ) → 0 < base → AreDigits base xs → AreDigits base (part width number xs)

@@ -44,12 +44,12 @@ active-on_lanes base width size address xs b h full =
 
 -- ---- the parts of a list
 
-length-part_full : {A : Type 0} (width size number : ℕ) (xs : List A) → IsBus width → number < data_beats size width → length xs ≡ bytes_of size → length (part width number xs) ≡ lane_count width size
+pub length-part_full : {A : Type 0} (width size number : ℕ) (xs : List A) → IsBus width → number < data_beats size width → length xs ≡ bytes_of size → length (part width number xs) ≡ lane_count width size
 length-part_full width size number xs bus h e =
     omega (arith, e, part_within width size number bus h, length-take width (drop (number * width) xs), length-drop (number * width) xs)
 
 -- so many parts have all that is left
-parts_joined : {A : Type 0} (width count number : ℕ) (xs : List A) → length xs ≤ (number + count) * width → flat_map (λ i. part width i xs) (range_with_len number count) ≡ drop (number * width) xs
+pub parts_joined : {A : Type 0} (width count number : ℕ) (xs : List A) → length xs ≤ (number + count) * width → flat_map (λ i. part width i xs) (range_with_len number count) ≡ drop (number * width) xs
 parts_joined width zero number xs h = sym (drop_all (number * width) xs (omega (arith, h)))
 parts_joined {A = A} width (suc count) number xs h =
     let left : length xs ≤ (number + 1 + count) * width = omega (arith, h) in
@@ -114,7 +114,7 @@ zeros_on_lanes width size address number n =
     ap (λ (xs : List ℕ). on_bytes (first_lane width size address) xs) zeros
     ∙ ap (λ (k : ℕ). 256 ^ first_lane width size address * k) (of_digits-zeros 256 (min width (n - number * width))) ∙ omega arith
 
-zeros_are_digits : (n i : ℕ) → get_or (replicate n 0) i 0 < 256
+pub zeros_are_digits : (n i : ℕ) → get_or (replicate n 0) i 0 < 256
 zeros_are_digits zero i = lit< tt
 zeros_are_digits (suc n) zero = lit< tt
 zeros_are_digits (suc n) (suc i) = zeros_are_digits n i
