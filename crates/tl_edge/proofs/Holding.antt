@@ -6,10 +6,9 @@ use Rattle.std.proofs.lemmas.Bool.{cases_lt}
 use Rattle.dip_sets.specs.Sets.{InSome}
 use Rattle.dip_sets.specs.SizeRanges.{HasSize}
 use Rattle.tl_params.specs.declared.ops.Op.{Op}
-use Rattle.tl_params.specs.declared.ops.Op.TheVariants.{PutFull, PutPartial, Arithmetic, Logical, Get, Intent}
-use Rattle.tl_params.specs.declared.ops.Ops.{Ops}
 use Rattle.tl_params.specs.declared.ports.Slave.{Slave}
 use Rattle.tl_params.specs.Operations.{largest, sizes_of}
+use Rattle.tl_params.proofs.Largest.{largest_is}
 use Rattle.tl_edge.specs.Bundles.{digits_of, bits_for, log_of, greatest_address, largest_transfer, bundle, BundleLaw}
 use Rattle.tl_edge.proofs.Widths.{bits_are_least, digits_holds, exponents-lt}
 use Rattle.tl_edge.proofs.Greatest.{bits_law}
@@ -43,22 +42,13 @@ least_addresses slaves ids width bits some hold = (bits_are_least (greatest_addr
       | inr none ↦ omega (arith, none, pow_pos bits)
     ]
 
--- no operation has a size above the largest
-pub size-le_largest : (ops : Ops) (op : Op) → (sizes_of ops op).max ≤ largest ops
-size-le_largest ops PutFull = omega arith
-size-le_largest ops PutPartial = omega arith
-size-le_largest ops Arithmetic = omega arith
-size-le_largest ops Logical = omega arith
-size-le_largest ops Get = omega arith
-size-le_largest ops Intent = omega arith
-
 -- an exponent is at most the logarithm of what isn't below the power
 exponent-le_log : (size n : ℕ) → 2 ^ size ≤ n → size ≤ log_of n
 exponent-le_log size n h = let less : size < digits_of n = exponents-lt size (digits_of n) (omega (arith, h, digits_holds n)) in omega (arith, less)
 
 sizes_fit : (slaves : List Slave) (ids width : ℕ) (slave : Slave) (op : Op) (size : ℕ) → Contains slaves slave → HasSize (sizes_of slave.supports op) (2 ^ size) → size < 2 ^ (bundle slaves ids width).size_bits
 sizes_fit slaves ids width slave op size listed has =
-    let within : 2 ^ size ≤ largest_transfer slaves = omega (arith, has.2, size-le_largest slave.supports op, bits_law.no_larger slaves slave listed) in
+    let within : 2 ^ size ≤ largest_transfer slaves = omega (arith, has.2, (largest_is slave.supports).bound op, bits_law.no_larger slaves slave listed) in
     omega (arith, exponent-le_log size (largest_transfer slaves) within, (bits_are_least (log_of (largest_transfer slaves))).holds)
 
 pub bundle_law : BundleLaw

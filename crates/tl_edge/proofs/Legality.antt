@@ -8,7 +8,7 @@ use Rattle.tl_params.specs.declared.ports.Master.{Master}
 use Rattle.tl_params.specs.declared.ports.Slave.{Slave}
 use Rattle.tl_params.specs.OwnerLaw.{HaveSets, Owns}
 use Rattle.tl_params.specs.Owners.{largest_end}
-use Rattle.tl_params.proofs.Greatest.{ends_at_most}
+use Rattle.tl_params.proofs.Largest.{largest_end_is}
 use Rattle.tl_edge.specs.declared.message.Request.{Request}
 use Rattle.tl_edge.specs.declared.plan.PlanEdge.{PlanEdge}
 use Rattle.tl_edge.specs.Legal.{Emits, IsOwned, IsLegal, IsLegalOn, LegalLaw}
@@ -18,7 +18,7 @@ use Rattle.tl_edge.proofs.Ways.{item_has, same_item}
 -- an emitted id is below the largest end
 id_below : (masters : List Master) (request : Request) → Any (Emits request) masters → request.source < largest_end masters
 id_below masters request (k, master, below, is, emits) =
-    let end : master.ids.end ≤ largest_end masters = All-contains (λ (m : Master). m.ids.end ≤ largest_end masters) masters master (ends_at_most masters) (k, below, is) in
+    let end : master.ids.end ≤ largest_end masters = All-contains (λ (m : Master). m.ids.end ≤ largest_end masters) masters master (largest_end_is masters).bound (k, below, is) in
     omega (arith, end, emits.0.1)
 
 by_masters : (masters : List Master) (edge : PlanEdge) (request : Request) → edge.ids ≡ largest_end masters → IsLegal masters edge.slaves request → IsLegalOn edge request
