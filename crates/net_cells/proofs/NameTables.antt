@@ -12,7 +12,7 @@ use Rattle.std.proofs.lemmas.Bool.{cases_Bool, cond-true, cond-false}
 use Rattle.std.proofs.lemmas.Map.Text.{is_eq-slice_cmp}
 use Rattle.std.proofs.lemmas.Slice.Eq.{bytes_eq-Decides}
 use mathlib.Core.Path.{fun_ext}
-use Rattle.net_cells.specs.NameTables.{entries_of, number_in, with_number}
+use Rattle.net_cells.specs.NameTables.{names_with_numbers, number_in, with_number}
 
 apart : (bs cs ks : List ℕ) → bytes_eq bs cs ≡ false → bytes_eq bs ks ≡ true → bytes_eq cs ks ≡ false
 apart bs cs ks n y = nat_list_eq_equiv.symm cs ks ∙ sym (nat_list_eq_equiv.congr bs ks cs y) ∙ n
@@ -37,16 +37,16 @@ in_entries name [] = refl
 in_entries name (e ∷ es) = rw (is_eq-slice_cmp name e.0.items, in_entries name es) refl
 
 -- what the map keeps under a name
-pub number_is : (numbers : BTreeMap (Vec ℕ Global) ℕ) (name : List ℕ) → number_in (entries_of numbers) name ≡ get_by (λ (k : Vec ℕ Global). slice_cmp nat_cmp name k.items) numbers
+pub number_is : (numbers : BTreeMap (Vec ℕ Global) ℕ) (name : List ℕ) → number_in (names_with_numbers numbers) name ≡ get_by (λ (k : Vec ℕ Global). slice_cmp nat_cmp name k.items) numbers
 number_is numbers name = in_entries name numbers.entries
 
 -- after one more name the map keeps its number, and under the others what it kept
 pub set_number : (old new : BTreeMap (Vec ℕ Global) ℕ) (key : Vec ℕ Global) (name : List ℕ) (number : ℕ) → key.items ≡ name
     → UpdatesBy (λ (x y : Vec ℕ Global). slice_cmp nat_cmp x.items y.items) (λ (k : Vec ℕ Global). slice_cmp nat_cmp key.items k.items) old new (Some number)
-    → number_in (entries_of new) ≡ with_number (number_in (entries_of old)) name number
+    → number_in (names_with_numbers new) ≡ with_number (number_in (names_with_numbers old)) name number
 set_number old new key name number e h =
-    subst (λ n. number_in (entries_of new) ≡ with_number (number_in (entries_of old)) n number) e
-    (fun_ext (by_name (number_in (entries_of old)) (number_in (entries_of new)) key.items (Some number) (number_is new key.items ∙ h.1)
+    subst (λ n. number_in (names_with_numbers new) ≡ with_number (number_in (names_with_numbers old)) n number) e
+    (fun_ext (by_name (number_in (names_with_numbers old)) (number_in (names_with_numbers new)) key.items (Some number) (number_is new key.items ∙ h.1)
     (λ other apart. number_is new other
     ∙ others _ _ _ _ h.3 _
     (λ (x y : Vec ℕ Global). (eq_by_cmp_equiv nat_list_cmp_total).congr other x.items y.items)
@@ -56,10 +56,10 @@ set_number old new key name number e h =
 -- ---- the same, where what a table shows is told by an equation
 
 pub number_told : (numbers : BTreeMap (Vec ℕ Global) ℕ) (now : List (List ℕ × ℕ)) (name : List ℕ) (found : Option ℕ)
-    → found ≡ get_by (λ (k : Vec ℕ Global). slice_cmp nat_cmp name k.items) numbers → entries_of numbers ≡ now → found ≡ number_in now name
+    → found ≡ get_by (λ (k : Vec ℕ Global). slice_cmp nat_cmp name k.items) numbers → names_with_numbers numbers ≡ now → found ≡ number_in now name
 number_told numbers now name found f e = f ∙ sym (number_is numbers name) ∙ ap (λ es. number_in es name) e
 
-pub set_told : (old new : BTreeMap (Vec ℕ Global) ℕ) (now : List (List ℕ × ℕ)) (key : Vec ℕ Global) (name : List ℕ) (number : ℕ) → key.items ≡ name → entries_of old ≡ now
+pub set_told : (old new : BTreeMap (Vec ℕ Global) ℕ) (now : List (List ℕ × ℕ)) (key : Vec ℕ Global) (name : List ℕ) (number : ℕ) → key.items ≡ name → names_with_numbers old ≡ now
     → UpdatesBy (λ (x y : Vec ℕ Global). slice_cmp nat_cmp x.items y.items) (λ (k : Vec ℕ Global). slice_cmp nat_cmp key.items k.items) old new (Some number)
-    → number_in (entries_of new) ≡ with_number (number_in now) name number
+    → number_in (names_with_numbers new) ≡ with_number (number_in now) name number
 set_told old new now key name number e f h = set_number old new key name number e h ∙ ap (λ es. with_number (number_in es) name number) f

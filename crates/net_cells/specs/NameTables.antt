@@ -10,8 +10,8 @@ abbrev pub with_number : (List ℕ → Option ℕ) → List ℕ → ℕ → List
 with_number numbers name number = update bytes_eq numbers name (Some number)
 
 -- the names of a map with their numbers
-abbrev pub entries_of : BTreeMap (Vec ℕ Global) ℕ → List (List ℕ × ℕ)
-entries_of numbers = map (λ (e : Vec ℕ Global × ℕ). (e.0.items, e.1)) numbers.entries
+abbrev pub names_with_numbers : BTreeMap (Vec ℕ Global) ℕ → List (List ℕ × ℕ)
+names_with_numbers numbers = map (λ (e : Vec ℕ Global × ℕ). (e.0.items, e.1)) numbers.entries
 
 -- the number under a name
 abbrev pub number_in : List (List ℕ × ℕ) → List ℕ → Option ℕ

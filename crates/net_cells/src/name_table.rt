@@ -6,8 +6,8 @@ use std::alloc::Global;
 use std::collections::BTreeMap;
 use std::marker::Model;
 
-/// Numbers under names of any bytes. Contracts see the names with their numbers, in the order of bytes.
-/// Adding and finding take comparisons of the order of the logarithm of how many names there are, whatever names
+/// Numbers under names of any bytes. Contracts see the names with their numbers, in the order of bytes. Adding
+/// and finding take comparisons of the order of the logarithm of how many names there are, whatever names
 /// they are.
 #[derive(Drop)]
 pub struct NameTable {
@@ -17,11 +17,11 @@ pub struct NameTable {
 
 impl Model for NameTable {
     ghost use Rattle.std.specs.Prelude.{List, ℕ};
-    ghost use Rattle.net_cells.specs.NameTables.{entries_of};
+    ghost use Rattle.net_cells.specs.NameTables.{names_with_numbers};
 
     ghost Value = { List (List ℕ × ℕ) };
 
-    ghost view = { λ t. entries_of t.numbers };
+    ghost view = { λ t. names_with_numbers t.numbers };
 }
 
 impl NameTable {

@@ -239,7 +239,8 @@ fn are_few(netlist: &Netlist) -> bool
 // Whether a name isn't in the table, where it is put then.
 fn is_new(table: &mut NameTable, name: &Name) -> Result<bool, Memory>
     ensures answer { IfOk result (λ is. is ≡ not (is_some (number_in table.old name.now))) }
-    ensures known { IfOk result (λ is. IsTrue is → number_in table.new ≡ with_number (number_in table.old) name.now 0) }
+    ensures known { IfOk result (λ is. IsTrue is
+        → number_in table.new ≡ with_number (number_in table.old) name.now 0) }
 {
     if table.number_of(name.bytes()).is_some() {
         return Ok(false);
@@ -250,7 +251,8 @@ fn is_new(table: &mut NameTable, name: &Name) -> Result<bool, Memory>
 
 // Whether the names of inputs differ and aren't in the table, where they are put then.
 fn are_new_inputs(table: &mut NameTable, inputs: &[Port]) -> Result<bool, Memory>
-    ensures answer { IfOk result (λ is. is ≡ are_new (number_in table.old) (map (λ (p : Port). p.name) inputs.now)) }
+    ensures answer { IfOk result (λ is. is
+        ≡ are_new (number_in table.old) (map (λ (p : Port). p.name) inputs.now)) }
     ensures known { IfOk result (λ is. IsTrue is
         → number_in table.new ≡ with_names (number_in table.old) (map (λ (p : Port). p.name) inputs.now)) }
 {
@@ -264,7 +266,8 @@ fn are_new_inputs(table: &mut NameTable, inputs: &[Port]) -> Result<bool, Memory
 
 // Whether the names of outputs differ and aren't in the table.
 fn are_new_outputs(table: &mut NameTable, outputs: &[OutPort]) -> Result<bool, Memory>
-    ensures { IfOk result (λ is. is ≡ are_new (number_in table.old) (map (λ (o : OutPort). o.name) outputs.now)) }
+    ensures { IfOk result (λ is. is
+        ≡ are_new (number_in table.old) (map (λ (o : OutPort). o.name) outputs.now)) }
 {
     for port in outputs {
         if !is_new(table, &port.name)? {

@@ -106,3 +106,11 @@ depends_found n start r s i a d =
     let k = known_depends n r.found.items (λ p c. subst (λ x. IsReady n r.found.items x) c.2 (a c.0 p c.1)) start (sources n + start) i d (omega arith) in
     let e : sources n + start - sources n ≡ start = omega arith in
     s.marked start (subst (λ x. Contains r.found.items x) e k)
+
+-- one net more is known
+pub known_next : (n : Netlist) (old new nets : List ℕ) (i : ℕ) → Extends old new → i < length nets → IsKnown n new (get_or nets i 0) → ((k d : ℕ) → k < i → IsKnown n old (get_or nets k d)) → (k d : ℕ) → k < i + 1
+    → IsKnown n new (get_or nets k d)
+known_next n old new nets i x b h a k d l = elim (cases_eq k i) [
+  | inl e ↦ let f : get_or nets i 0 ≡ get_or nets k d = get_or_default nets i 0 d b ∙ ap (λ j. get_or nets j d) (sym e) in subst (IsKnown n new) f h
+  | inr e ↦ let m : k < i = omega arith in known_extends n old new (get_or nets k d) x (a k d m)
+]

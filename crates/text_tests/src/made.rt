@@ -37,13 +37,10 @@ fn put_inputs(front: &str, count: usize, text: &mut String) -> Result<(), AllocE
     Ok(())
 }
 
-// The text of a netlist with so many inputs, called by these first letters and a number, whose output is called
-// by them and `last`, and shows the input with number 0.
+// The text of a netlist with so many inputs, called by these first letters and a number, whose output is
+// called by them and `last`, and shows the input with number 0.
 fn put_ports(front: &str, count: usize, last: &str, text: &mut String) -> Result<(), AllocError> {
-    write!(
-        text,
-        "module m_ports(input [0:0] clock, input [0:0] reset"
-    )?;
+    write!(text, "module m_ports(input [0:0] clock, input [0:0] reset")?;
     put_inputs(front, count, text)?;
     write!(text, ", output [0:0] {front}{last});\n")?;
     write!(text, "assign {front}{last} = {front}00000000;\nendmodule\n")

@@ -71,23 +71,23 @@ compared width size bus =
 
 -- ---- the first lane and the number of lanes, in the two cases
 
-times-le : (unit times : ℕ) → 0 < times → unit ≤ unit * times
+pub times-le : (unit times : ℕ) → 0 < times → unit ≤ unit * times
 times-le unit times h = omega (arith, mul-le-mul_left unit (one h))
   where
     one : 0 < times → 1 ≤ times
     one p = omega arith
 
-first_large : (width size address : ℕ) → width ≤ bytes_of size → first_lane width size address ≡ 0
+pub first_large : (width size address : ℕ) → width ≤ bytes_of size → first_lane width size address ≡ 0
 first_large width size address h = cond-true (nat_le width (bytes_of size)) 0 (address % width) (le-leb width (bytes_of size) h)
 
-first_small : (width size address : ℕ) → bytes_of size < width → first_lane width size address ≡ address % width
+pub first_small : (width size address : ℕ) → bytes_of size < width → first_lane width size address ≡ address % width
 first_small width size address h = cond-false (nat_le width (bytes_of size)) 0 (address % width) (lt-leb width (bytes_of size) h)
 
-mod-mul_first : (n unit times : ℕ) → n % (unit * times) % unit ≡ n % unit
+pub mod-mul_first : (n unit times : ℕ) → n % (unit * times) % unit ≡ n % unit
 mod-mul_first n unit times = mod-mod_of_dvd unit n (dvd-mul_right unit times)
 
 -- an aligned message smaller than the bus doesn't pass its end
-small_fits : (width unit times address : ℕ) → 0 < unit → 0 < times → width ≡ unit * times → address % unit ≡ 0 → address % width + unit ≤ width
+pub small_fits : (width unit times address : ℕ) → 0 < unit → 0 < times → width ≡ unit * times → address % unit ≡ 0 → address % width + unit ≤ width
 small_fits width unit times address h t w a =
     let rest : ℕ = address % width in
     let divided : address % width % unit ≡ 0 = ap (λ (n : ℕ). address % n % unit) w ∙ mod-mul_first address unit times ∙ a in
@@ -110,28 +110,28 @@ all_or_none false n m h = omega arith
 
 -- ---- what a beat carries of a list
 
-pub part-length : {A : Type 0} (width size beat : ℕ) (items : List A) → length items ≤ bytes_of size → length (part width beat items) ≤ lane_count width size
-part-length width size beat items h = omega (arith, h, length-take width (drop (beat * width) items), length-drop (beat * width) items)
+pub part-length : {A : Type 0} (width size number : ℕ) (items : List A) → length items ≤ bytes_of size → length (part width number items) ≤ lane_count width size
+part-length width size number items h = omega (arith, h, length-take width (drop (number * width) items), length-drop (number * width) items)
 
 -- a beat of data within the message carries all active lanes
-pub part_within : (width size beat : ℕ) → IsBus width → beat < data_beats size width → beat * width + lane_count width size ≤ bytes_of size
-part_within width size beat bus h =
+pub part_within : (width size number : ℕ) → IsBus width → number < data_beats size width → number * width + lane_count width size ≤ bytes_of size
+part_within width size number bus h =
     elim (compared width size bus) [
       | larger times some is ↦
           let count : bytes_of size / width ≡ times = ap (λ (n : ℕ). n / width) is ∙ mul-div_cancel_left times (bus_pos width bus) in
-          omega (arith, is, count, row_fits beat width times width (omega (arith, h, count, some)) (omega arith))
+          omega (arith, is, count, row_fits number width times width (omega (arith, h, count, some)) (omega arith))
       | smaller times some is below ↦
           let count : bytes_of size / width < 1 = div_below (bytes_of size) width 1 (bus_pos width bus) (omega arith) in
-          let none : beat ≡ 0 = omega (arith, h, count) in
-          let first : beat * width ≡ 0 = ap (λ (n : ℕ). n * width) none ∙ omega arith in
+          let none : number ≡ 0 = omega (arith, h, count) in
+          let first : number * width ≡ 0 = ap (λ (n : ℕ). n * width) none ∙ omega arith in
           omega (arith, first)
     ]
 
-pub part_fits : {A : Type 0} (width size address beat first : ℕ) (items whole : List A) → IsTrue (is_width width) → address % bytes_of size ≡ 0 → length whole ≤ bytes_of size
-    → first ≡ first_lane width size address → items ≡ part width beat whole → first + length items ≤ 8
-part_fits width size address beat first items whole is aligned few e p =
+pub part_fits : {A : Type 0} (width size address number first : ℕ) (items whole : List A) → IsTrue (is_width width) → address % bytes_of size ≡ 0 → length whole ≤ bytes_of size
+    → first ≡ first_lane width size address → items ≡ part width number whole → first + length items ≤ 8
+part_fits width size address number first items whole is aligned few e p =
     let bus : IsBus width = bus_of width is in
-    omega (arith, e, ap length p, part-length width size beat whole few, lanes_fit width size address bus aligned, bus.small)
+    omega (arith, e, ap length p, part-length width size number whole few, lanes_fit width size address bus aligned, bus.small)
 
 pub lanes_fit_word : (width size address first count : ℕ) → IsTrue (is_width width) → address % bytes_of size ≡ 0
     → first ≡ first_lane width size address → count ≡ lane_count width size → first + count ≤ 8
@@ -151,42 +151,42 @@ map-replicate-true : (n : ℕ) → map from_bool (replicate n true) ≡ replicat
 map-replicate-true zero = refl
 map-replicate-true (suc n) = ap (λ (xs : List ℕ). 1 ∷ xs) (map-replicate-true n)
 
-pub set_part : (width size beat : ℕ) → beat * width + lane_count width size ≤ bytes_of size → part width beat (replicate (bytes_of size) true) ≡ replicate (lane_count width size) true
-set_part width size beat h =
-    ap (λ (flags : List Bool). take width flags) (drop-replicate (beat * width) (bytes_of size) true)
-    ∙ take-replicate-min width (bytes_of size - beat * width) true
+pub set_part : (width size number : ℕ) → number * width + lane_count width size ≤ bytes_of size → part width number (replicate (bytes_of size) true) ≡ replicate (lane_count width size) true
+set_part width size number h =
+    ap (λ (flags : List Bool). take width flags) (drop-replicate (number * width) (bytes_of size) true)
+    ∙ take-replicate-min width (bytes_of size - number * width) true
     ∙ ap (λ (k : ℕ). replicate k true) (omega arith)
 
 -- a beat without flags of its own marks all active lanes
-pub all_marked : (width size beat first : ℕ) → beat * width + lane_count width size ≤ bytes_of size
-    → on_lanes 2 first (replicate (lane_count width size) 1) ≡ on_bits first (part width beat (replicate (bytes_of size) true))
-all_marked width size beat first h =
-    ap (λ (xs : List ℕ). on_lanes 2 first xs) (sym (ap (λ (flags : List Bool). map from_bool flags) (set_part width size beat h) ∙ map-replicate-true (lane_count width size)))
+pub all_marked : (width size number first : ℕ) → number * width + lane_count width size ≤ bytes_of size
+    → on_lanes 2 first (replicate (lane_count width size) 1) ≡ on_bits first (part width number (replicate (bytes_of size) true))
+all_marked width size number first h =
+    ap (λ (xs : List ℕ). on_lanes 2 first xs) (sym (ap (λ (flags : List Bool). map from_bool flags) (set_part width size number h) ∙ map-replicate-true (lane_count width size)))
 
 -- a beat within a request, with data or without
-pub request_within : (op : Op) (width size beat : ℕ) → IsTrue (is_width width) → beat < request_beats op size width → beat * width + lane_count width size ≤ bytes_of size
-request_within op width size beat is h = within (has_data op) h
+pub request_within : (op : Op) (width size number : ℕ) → IsTrue (is_width width) → number < request_beats op size width → number * width + lane_count width size ≤ bytes_of size
+request_within op width size number is h = within (has_data op) h
   where
-    within : (data_too : Bool) → beat < cond data_too (data_beats size width) 1 → beat * width + lane_count width size ≤ bytes_of size
-    within true l = part_within width size beat (bus_of width is) l
-    within false l = let none : beat ≡ 0 = omega arith in omega (arith, ap (λ (n : ℕ). n * width) none)
+    within : (data_too : Bool) → number < cond data_too (data_beats size width) 1 → number * width + lane_count width size ≤ bytes_of size
+    within true l = part_within width size number (bus_of width is) l
+    within false l = let none : number ≡ 0 = omega arith in omega (arith, ap (λ (n : ℕ). n * width) none)
 
 -- the mask of a request that has no flags of its own
-pub mask_without_flags : (width beat first count mask : ℕ) (request : Request) → IsTrue (is_width width) → beat < request_beats request.op request.size width
+pub mask_without_flags : (width number first count mask : ℕ) (request : Request) → IsTrue (is_width width) → number < request_beats request.op request.size width
     → has_flags request.op ≡ false → count ≡ lane_count width request.size → mask ≡ on_lanes 2 first (replicate count 1)
-    → mask ≡ on_bits first (part width beat (flags_of request))
-mask_without_flags width beat first count mask request is h none c m =
+    → mask ≡ on_bits first (part width number (flags_of request))
+mask_without_flags width number first count mask request is h none c m =
     m ∙ ap (λ (n : ℕ). on_lanes 2 first (replicate n 1)) c
-    ∙ all_marked width request.size beat first (request_within request.op width request.size beat is h)
-    ∙ ap (λ (flags : List Bool). on_bits first (part width beat flags)) (sym (cond-false (has_flags request.op) request.mask (replicate (bytes_of request.size) true) none))
+    ∙ all_marked width request.size number first (request_within request.op width request.size number is h)
+    ∙ ap (λ (flags : List Bool). on_bits first (part width number flags)) (sym (cond-false (has_flags request.op) request.mask (replicate (bytes_of request.size) true) none))
 
 -- ---- a loop over beats
 
-pub beats_step : {A : Type 0} (f : ℕ → A) (list pushed : List A) (item : A) (beat end : ℕ) (all : List A) → beat < end → item ≡ f beat → pushed ≡ list ++ item ∷ []
-    → list ++ map f (range_with_len beat (end - beat)) ≡ all → pushed ++ map f (range_with_len (beat + 1) (end - (beat + 1))) ≡ all
-beats_step {A = A} f list pushed item beat end all h i p e =
-    let rest : List A = map f (range_with_len (beat + 1) (end - (beat + 1))) in
-    let more : end - beat ≡ suc (end - (beat + 1)) = omega arith in
+pub beats_step : {A : Type 0} (f : ℕ → A) (list pushed : List A) (item : A) (number end : ℕ) (all : List A) → number < end → item ≡ f number → pushed ≡ list ++ item ∷ []
+    → list ++ map f (range_with_len number (end - number)) ≡ all → pushed ++ map f (range_with_len (number + 1) (end - (number + 1))) ≡ all
+beats_step {A = A} f list pushed item number end all h i p e =
+    let rest : List A = map f (range_with_len (number + 1) (end - (number + 1))) in
+    let more : end - number ≡ suc (end - (number + 1)) = omega arith in
     ap (λ (xs : List A). xs ++ rest) (p ∙ ap (λ (x : A). list ++ x ∷ []) i)
-    ∙ append_assoc list (f beat ∷ []) rest
-    ∙ sym (ap (λ (left : ℕ). list ++ map f (range_with_len beat left)) more) ∙ e
+    ∙ append_assoc list (f number ∷ []) rest
+    ∙ sym (ap (λ (left : ℕ). list ++ map f (range_with_len number left)) more) ∙ e

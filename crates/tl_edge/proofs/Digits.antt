@@ -5,19 +5,19 @@ use Rattle.std.proofs.lemmas.Nat.{pow-add, shl_whole}
 use Rattle.std.proofs.lemmas.List.{drop_more, length-map}
 use Rattle.std.specs.List.{drop-map}
 use Rattle.std.specs.Int.{from_bool}
-use Rattle.tl_edge.specs.Beats.{number, on_lanes, on_bits}
+use Rattle.tl_edge.specs.Beats.{of_digits, on_lanes, on_bits}
 
 -- each digit is below the base
 abbrev pub AreDigits : ℕ → List ℕ → Type 0
 AreDigits base digits = (i : ℕ) → get_or digits i 0 < base
 
-pub number-lt : (base : ℕ) (xs : List ℕ) → 0 < base → AreDigits base xs → number base xs < base ^ length xs
-number-lt base [] b h = lit_one
+pub of_digits-lt : (base : ℕ) (xs : List ℕ) → 0 < base → AreDigits base xs → of_digits base xs < base ^ length xs
+of_digits-lt base [] b h = lit_one
   where
     lit_one : 0 < base ^ 0
     lit_one = omega (arith, one-le-pow 0 base b)
-number-lt base (x ∷ xs) b h =
-    let rest : number base xs + 1 ≤ base ^ length xs = omega (arith, number-lt base xs b (λ i. h (suc i))) in
+of_digits-lt base (x ∷ xs) b h =
+    let rest : of_digits base xs + 1 ≤ base ^ length xs = omega (arith, of_digits-lt base xs b (λ i. h (suc i))) in
     let first : x < base = h 0 in
     omega (arith, first, mul-le-mul_left base rest, pow-suc base (length xs))
 
@@ -28,7 +28,7 @@ on_lanes-cons base first x xs = rw (add-one first, pow-suc base first) (grind ar
 pub on_lanes-lt : (base first : ℕ) (xs : List ℕ) → 0 < base → AreDigits base xs → on_lanes base first xs < base ^ (first + length xs)
 on_lanes-lt base first xs b h =
     let some : 0 < base ^ first = omega (arith, one-le-pow first base b) in
-    let below : number base xs + 1 ≤ base ^ length xs = omega (arith, number-lt base xs b h) in
+    let below : of_digits base xs + 1 ≤ base ^ length xs = omega (arith, of_digits-lt base xs b h) in
     rw (pow-add base first (length xs)) (omega (arith, some, mul-le-mul_left (base ^ first) below))
 
 -- a loop over lanes: what is done, and what is left
@@ -71,9 +71,9 @@ pub bytes_are_digits : (xs : List ℕ) → ((i : ℕ) → Fits w8 (get_or xs i 0
 bytes_are_digits xs h i = omega (arith, h i)
 
 -- lanes that are all set
-pub number-ones : (n : ℕ) → number 2 (replicate n 1) + 1 ≡ 2 ^ n
-number-ones zero = refl
-number-ones (suc n) = omega (arith, number-ones n, pow-suc 2 n)
+pub of_digits-ones : (n : ℕ) → of_digits 2 (replicate n 1) + 1 ≡ 2 ^ n
+of_digits-ones zero = refl
+of_digits-ones (suc n) = omega (arith, of_digits-ones n, pow-suc 2 n)
 
 -- lanes that are all set, as a number of 64 bits
 pub ones_on_lanes : (first count : ℕ) → first + count ≤ 8 → (1 * 2 ^ count % 2 ^ 64 - 1) * 2 ^ first % 2 ^ 64 ≡ on_lanes 2 first (replicate count 1)
@@ -81,9 +81,9 @@ ones_on_lanes first count h =
     let within : count ≤ 63 = omega arith in
     let below : 2 ^ count ≤ 2 ^ 63 = pow-le-pow_right (lit< tt) within in
     let whole : 1 * 2 ^ count % 2 ^ 64 ≡ 2 ^ count = shl_whole 1 1 count 64 (lit< tt) (omega arith) ∙ omega arith in
-    let ones : 1 * 2 ^ count % 2 ^ 64 - 1 ≡ number 2 (replicate count 1) = omega (arith, whole, number-ones count) in
-    let few : number 2 (replicate count 1) < 2 ^ count = omega (arith, number-ones count) in
-    ap (λ (n : ℕ). n * 2 ^ first % 2 ^ 64) ones ∙ shl_whole (number 2 (replicate count 1)) count first 64 few (omega arith) ∙ omega arith
+    let ones : 1 * 2 ^ count % 2 ^ 64 - 1 ≡ of_digits 2 (replicate count 1) = omega (arith, whole, of_digits-ones count) in
+    let few : of_digits 2 (replicate count 1) < 2 ^ count = omega (arith, of_digits-ones count) in
+    ap (λ (n : ℕ). n * 2 ^ first % 2 ^ 64) ones ∙ shl_whole (of_digits 2 (replicate count 1)) count first 64 few (omega arith) ∙ omega arith
 
 -- a loop that puts one digit after another on its lane: the sum fits, and what is left is one lane less
 pub lane_loop : (base first place lanes moved digit : ℕ) (xs : List ℕ) → 0 < base → AreDigits base xs → base ^ (first + length xs) ≤ 2 ^ 64 → place < length xs

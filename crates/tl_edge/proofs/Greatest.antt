@@ -37,7 +37,7 @@ found value (x ∷ xs) h =
 one_bit : (m b x : ℕ) → m < 2 → b < 2 → x < 2 → (m ≡ 0 → x ≡ b) → min x (max b m) ≡ x
 one_bit m b x hm hb hx h = grind arith
 
-in_le : (set : Pattern) (x : ℕ) → In set x → x ≤ bit_or set.base set.mask
+pub in_le : (set : Pattern) (x : ℕ) → In set x → x ≤ bit_or set.base set.mask
 in_le set x h =
     let same : bit_and x (bit_or set.base set.mask) ≡ x = same_from_bits _ _ (λ i. bit_at_and x (bit_or set.base set.mask) i ∙ ap (λ (n : ℕ). min (bit_at x i) n) (bit_at_or set.base set.mask i)
     ∙ one_bit (bit_at set.mask i) (bit_at set.base i) (bit_at x i) (bit_at-lt _ i) (bit_at-lt _ i) (bit_at-lt _ i) (h i)) in

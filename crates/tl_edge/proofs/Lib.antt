@@ -4,7 +4,10 @@ pub mod Digits
 mod ExampleSound
 pub mod Greatest
 pub mod Heads
+pub mod Holding
 pub mod LaneByLane
+pub mod Legality
+pub mod Once
 pub mod Reading
 pub mod Spelled
 pub mod Ways

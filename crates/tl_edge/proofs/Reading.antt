@@ -1,57 +1,61 @@
 -- Messages read back from their beats.
-use Rattle.std.proofs.Common.{ℕ, zero, suc, ◌≡◌, ◌+◌, ◌*◌, ◌/◌, ◌%◌, ◌^◌, ◌-◌, ◌<◌, ◌≤◌, ◌==◌, min, List, [], ◌∷◌, ◌++◌, length, get_or, take, drop, map, replicate, Bool, true, false, cond, IsTrue, Option, Some, unwrap_or, lit<, ap, sym, ◌∙◌, refl, arith}
+use Rattle.std.proofs.Common.{ℕ, zero, suc, ◌≡◌, ◌+◌, ◌*◌, ◌/◌, ◌%◌, ◌^◌, ◌-◌, ◌<◌, ◌≤◌, ◌==◌, min, List, [], ◌∷◌, ◌++◌, length, get_or, take, drop, map, replicate, Bool, true, false, cond, IsTrue, Option, Some, unwrap_or, inl, inr, lit<, ap, sym, ◌∙◌, refl, arith}
 use Rattle.std.specs.Int.{from_bool}
 use Rattle.std.specs.List.{range_with_len, flat_map}
 use Rattle.std.proofs.Math.Nat.{mul-div_cancel_left, add-mul-mod_self_left, add-mul-div_left, mod-eq_of_lt, div-eq_of_lt, mul-le-mul_right}
-use Rattle.std.proofs.lemmas.List.{length-map, length-take, length-drop, drop-drop, drop_all, take-append-drop, nil_from_length, drop-replicate, length-replicate}
-use Rattle.std.proofs.lemmas.Bool.{cond-false}
+use Rattle.std.proofs.lemmas.List.{length-map, length-take, length-drop, drop-drop, drop_all, take-append-drop, nil_from_length, drop-replicate, length-replicate, ext_get_or}
+use Rattle.std.proofs.lemmas.List.FromFn.{get_or-map-range_with_len}
+use Rattle.std.proofs.lemmas.Nat.{pow_pos, div-add-mod', div_below, row_fits}
+use Rattle.std.proofs.lemmas.Bool.{cond-false, cases_eq, cases_order}
 use Rattle.tl_params.specs.Arguments.{is_width}
+use Rattle.tl_params.specs.declared.ops.Ack.{Ack}
 use Rattle.tl_params.specs.declared.ops.Op.{Op}
 use Rattle.tl_params.specs.declared.ops.Op.TheVariants.{PutFull, PutPartial, Arithmetic, Logical, Get, Intent}
 use Rattle.tl_edge.specs.declared.message.Request.{Request}
 use Rattle.tl_edge.specs.declared.message.Response.{Response}
-use Rattle.tl_edge.specs.Messages.{bytes_of, has_data, has_flags, brings_data, IsWholeRequest, IsWholeResponse}
-use Rattle.tl_edge.specs.Beats.{number, on_lanes, on_bits, on_bytes, part, first_lane, lane_count, data_beats, a_beat, d_beat, request_beats, response_beats, beats_of_request, beats_of_response, data_on_lanes}
+use Rattle.tl_edge.specs.declared.beat.DBeat.{DBeat}
+use Rattle.tl_edge.specs.Messages.{bytes_of, has_data, has_flags, brings_data, IsWholeRequest, IsWholeResponse, AreBytes}
+use Rattle.tl_edge.specs.Beats.{of_digits, on_lanes, on_bits, on_bytes, part, first_lane, lane_count, data_beats, a_beat, d_beat, request_beats, response_beats, beats_of_request, beats_of_response, data_on_lanes}
 use Rattle.tl_edge.specs.Joined.{digits, active_digits, bytes_in, flags_in, bytes_back, joined_request, joined_response, told}
-use Rattle.tl_edge.specs.BeatLaws.{JoinLaw, SameLaw}
+use Rattle.tl_edge.specs.BeatLaws.{IsSent, IsSentBack, IsActive, lane_of, JoinLaw, SameLaw}
 use Rattle.tl_edge.proofs.Digits.{AreDigits, flag_bits}
-use Rattle.tl_edge.proofs.Active.{IsBus, larger, smaller, compared, take-replicate-min, bus_of, bus_pos, part_within}
+use Rattle.tl_edge.proofs.Active.{IsBus, larger, smaller, compared, take-replicate-min, bus_of, bus_pos, part_within, all_or_none, times-le, first_large, first_small, mod-mul_first}
 use Rattle.tl_edge.proofs.Heads.{heads_law}
-use Rattle.tl_edge.proofs.LaneByLane.{base_pos, part_digits, digits_from_bytes}
+use Rattle.tl_edge.proofs.LaneByLane.{base_pos, part_digits, digits_from_bytes, aligned_back, response_lanes}
 
 -- ---- the digits of a number
 
-digits-number : (base : ℕ) (xs : List ℕ) → 0 < base → AreDigits base xs → digits base (length xs) (number base xs) ≡ xs
-digits-number base [] b h = refl
-digits-number base (x ∷ xs) b h =
-    let low : (x + base * number base xs) % base ≡ x = add-mul-mod_self_left x base (number base xs) ∙ mod-eq_of_lt (h 0) in
-    let rest : (x + base * number base xs) / base ≡ number base xs = add-mul-div_left x (number base xs) b ∙ ap (λ (n : ℕ). n + number base xs) (div-eq_of_lt (h 0)) ∙ omega arith in
-    ap (λ (n : ℕ). n ∷ digits base (length xs) ((x + base * number base xs) / base)) low
+digits-of_digits : (base : ℕ) (xs : List ℕ) → 0 < base → AreDigits base xs → digits base (length xs) (of_digits base xs) ≡ xs
+digits-of_digits base [] b h = refl
+digits-of_digits base (x ∷ xs) b h =
+    let low : (x + base * of_digits base xs) % base ≡ x = add-mul-mod_self_left x base (of_digits base xs) ∙ mod-eq_of_lt (h 0) in
+    let rest : (x + base * of_digits base xs) / base ≡ of_digits base xs = add-mul-div_left x (of_digits base xs) b ∙ ap (λ (n : ℕ). n + of_digits base xs) (div-eq_of_lt (h 0)) ∙ omega arith in
+    ap (λ (n : ℕ). n ∷ digits base (length xs) ((x + base * of_digits base xs) / base)) low
     ∙ ap (λ (n : ℕ). x ∷ digits base (length xs) n) rest
-    ∙ ap (λ (ys : List ℕ). x ∷ ys) (digits-number base xs b (λ i. h (suc i)))
+    ∙ ap (λ (ys : List ℕ). x ∷ ys) (digits-of_digits base xs b (λ i. h (suc i)))
 
 -- what active lanes that are all filled hold
 active-on_lanes : (base width size address : ℕ) (xs : List ℕ) → 0 < base → AreDigits base xs → length xs ≡ lane_count width size
     → active_digits base width size address (on_lanes base (first_lane width size address) xs) ≡ xs
 active-on_lanes base width size address xs b h full =
-    ap (λ (n : ℕ). digits base (lane_count width size) n) (mul-div_cancel_left (number base xs) (base_pos base (first_lane width size address) b))
-    ∙ sym (ap (λ (n : ℕ). digits base n (number base xs)) full)
-    ∙ digits-number base xs b h
+    ap (λ (n : ℕ). digits base (lane_count width size) n) (mul-div_cancel_left (of_digits base xs) (base_pos base (first_lane width size address) b))
+    ∙ sym (ap (λ (n : ℕ). digits base n (of_digits base xs)) full)
+    ∙ digits-of_digits base xs b h
 
 -- ---- the parts of a list
 
-length-part_full : {A : Type 0} (width size beat : ℕ) (xs : List A) → IsBus width → beat < data_beats size width → length xs ≡ bytes_of size → length (part width beat xs) ≡ lane_count width size
-length-part_full width size beat xs bus h e =
-    omega (arith, e, part_within width size beat bus h, length-take width (drop (beat * width) xs), length-drop (beat * width) xs)
+pub length-part_full : {A : Type 0} (width size number : ℕ) (xs : List A) → IsBus width → number < data_beats size width → length xs ≡ bytes_of size → length (part width number xs) ≡ lane_count width size
+length-part_full width size number xs bus h e =
+    omega (arith, e, part_within width size number bus h, length-take width (drop (number * width) xs), length-drop (number * width) xs)
 
 -- so many parts have all that is left
-parts_joined : {A : Type 0} (width count beat : ℕ) (xs : List A) → length xs ≤ (beat + count) * width → flat_map (λ i. part width i xs) (range_with_len beat count) ≡ drop (beat * width) xs
-parts_joined width zero beat xs h = sym (drop_all (beat * width) xs (omega (arith, h)))
-parts_joined {A = A} width (suc count) beat xs h =
-    let left : length xs ≤ (beat + 1 + count) * width = omega (arith, h) in
-    ap (λ (ys : List A). part width beat xs ++ ys) (parts_joined width count (beat + 1) xs left
-    ∙ ap (λ (n : ℕ). drop n xs) (omega arith) ∙ sym (drop-drop width (beat * width) xs))
-    ∙ take-append-drop width (drop (beat * width) xs)
+pub parts_joined : {A : Type 0} (width count number : ℕ) (xs : List A) → length xs ≤ (number + count) * width → flat_map (λ i. part width i xs) (range_with_len number count) ≡ drop (number * width) xs
+parts_joined width zero number xs h = sym (drop_all (number * width) xs (omega (arith, h)))
+parts_joined {A = A} width (suc count) number xs h =
+    let left : length xs ≤ (number + 1 + count) * width = omega (arith, h) in
+    ap (λ (ys : List A). part width number xs ++ ys) (parts_joined width count (number + 1) xs left
+    ∙ ap (λ (n : ℕ). drop n xs) (omega arith) ∙ sym (drop-drop width (number * width) xs))
+    ∙ take-append-drop width (drop (number * width) xs)
 
 -- the beats of a message have room for all of it, and have all of it
 beats_hold : (width size : ℕ) → IsBus width → bytes_of size ≤ data_beats size width * width
@@ -99,18 +103,18 @@ bytes_read true width size address xs bus h e =
 bytes_read false width size address xs bus h e = sym (nil_from_length xs e)
 
 -- the same where a denied message's data are 0
-number-zeros : (base n : ℕ) → number base (replicate n 0) ≡ 0
-number-zeros base zero = refl
-number-zeros base (suc n) = ap (λ (k : ℕ). 0 + base * k) (number-zeros base n) ∙ omega arith
+of_digits-zeros : (base n : ℕ) → of_digits base (replicate n 0) ≡ 0
+of_digits-zeros base zero = refl
+of_digits-zeros base (suc n) = ap (λ (k : ℕ). 0 + base * k) (of_digits-zeros base n) ∙ omega arith
 
-zeros_on_lanes : (width size address beat n : ℕ) → data_on_lanes width size address beat (replicate n 0) ≡ 0
-zeros_on_lanes width size address beat n =
-    let zeros : part width beat (replicate n 0) ≡ replicate (min width (n - beat * width)) 0 =
-    ap (λ (xs : List ℕ). take width xs) (drop-replicate (beat * width) n 0) ∙ take-replicate-min width (n - beat * width) 0 in
+zeros_on_lanes : (width size address number n : ℕ) → data_on_lanes width size address number (replicate n 0) ≡ 0
+zeros_on_lanes width size address number n =
+    let zeros : part width number (replicate n 0) ≡ replicate (min width (n - number * width)) 0 =
+    ap (λ (xs : List ℕ). take width xs) (drop-replicate (number * width) n 0) ∙ take-replicate-min width (n - number * width) 0 in
     ap (λ (xs : List ℕ). on_bytes (first_lane width size address) xs) zeros
-    ∙ ap (λ (k : ℕ). 256 ^ first_lane width size address * k) (number-zeros 256 (min width (n - beat * width))) ∙ omega arith
+    ∙ ap (λ (k : ℕ). 256 ^ first_lane width size address * k) (of_digits-zeros 256 (min width (n - number * width))) ∙ omega arith
 
-zeros_are_digits : (n i : ℕ) → get_or (replicate n 0) i 0 < 256
+pub zeros_are_digits : (n i : ℕ) → get_or (replicate n 0) i 0 < 256
 zeros_are_digits zero i = lit< tt
 zeros_are_digits (suc n) zero = lit< tt
 zeros_are_digits (suc n) (suc i) = zeros_are_digits n i
@@ -184,29 +188,156 @@ unfolding answered
 joined_beats_back width address zero response h = absurd (omega arith)
 joined_beats_back width address (suc count) response h = refl
 
-response_joined : (width : ℕ) (request : Request) (response : Response) → IsTrue (is_width width) → IsWholeRequest request → IsWholeResponse request response
-    → joined_response width request.address (beats_of_response width request.address response) ≡ Some (told response)
+-- the beats of a response are read back whichever address its request has
+response_read : (width address : ℕ) (response : Response) → IsTrue (is_width width) → AreBytes response.payload → length response.payload ≡ cond (brings_data response.op) (bytes_of response.size) 0
+    → joined_response width address (beats_of_response width address response) ≡ Some (told response)
 unfolding answered
-response_joined width request response is_bus is back =
-    let bytes : flat_map (bytes_back width request.address) (beats_of_response width request.address response) ≡ cond response.denied (replicate (length response.payload) 0) response.payload =
-    flat_map-map (d_beat width request.address response) (bytes_back width request.address) (range_with_len 0 (response_beats response.op response.size width))
-    ∙ bytes_read_back response.denied (brings_data response.op) width response.size request.address response.payload (bus_of width is_bus) (digits_from_bytes response.payload back.bytes) back.answers.bytes in
-    joined_beats_back width request.address (response_beats response.op response.size width) response (heads_law.response_some width response)
+response_read width address response is_bus are_bytes e =
+    let bytes : flat_map (bytes_back width address) (beats_of_response width address response) ≡ cond response.denied (replicate (length response.payload) 0) response.payload =
+    flat_map-map (d_beat width address response) (bytes_back width address) (range_with_len 0 (response_beats response.op response.size width))
+    ∙ bytes_read_back response.denied (brings_data response.op) width response.size address response.payload (bus_of width is_bus) (digits_from_bytes response.payload are_bytes) e in
+    joined_beats_back width address (response_beats response.op response.size width) response (heads_law.response_some width response)
     ∙ ap (λ (payload : List ℕ). Some (answered response payload)) bytes
 
+response_joined : (width address : ℕ) (request : Request) (response : Response) → IsSentBack width request response
+    → joined_response width address (beats_of_response width address response) ≡ Some (told response)
+response_joined width address request response back = response_read width address response back.sent.bus back.whole.bytes back.whole.answers.bytes
+
 pub join_law : JoinLaw
-join_law = record { requests = request_joined; responses = response_joined }
+join_law = record {
+  requests = λ width request sent. request_joined width request sent.bus sent.whole;
+  responses = λ width request response back. response_joined width request.address request response back;
+}
 
 -- ---- messages with the same beats
 
-same_request : (width : ℕ) (request other : Request) → IsTrue (is_width width) → IsWholeRequest request → IsWholeRequest other → beats_of_request width request ≡ beats_of_request width other → request ≡ other
-same_request width request other bus is is_too e =
-    ap (λ (o : Option Request). unwrap_or o request) (sym (request_joined width request bus is) ∙ ap (joined_request width) e ∙ request_joined width other bus is_too)
+same_request : (width : ℕ) (request other : Request) → IsSent width request → IsSent width other → beats_of_request width request ≡ beats_of_request width other → request ≡ other
+same_request width request other sent sent_too e =
+    ap (λ (o : Option Request). unwrap_or o request) (sym (join_law.requests width request sent) ∙ ap (joined_request width) e ∙ join_law.requests width other sent_too)
 
-same_told : (width : ℕ) (request : Request) (response other : Response) → IsTrue (is_width width) → IsWholeRequest request → IsWholeResponse request response → IsWholeResponse request other
-    → beats_of_response width request.address response ≡ beats_of_response width request.address other → told response ≡ told other
-same_told width request response other bus is back back_too e =
-    ap (λ (o : Option Response). unwrap_or o (told response)) (sym (response_joined width request response bus is back) ∙ ap (joined_response width request.address) e ∙ response_joined width request other bus is back_too)
+-- the first beats of two responses with the same beats
+first_back : (width address other_address : ℕ) (response other : Response) → beats_of_response width address response ≡ beats_of_response width other_address other
+    → d_beat width address response 0 ≡ d_beat width other_address other 0
+first_back width address other_address response other e =
+    let none : DBeat = d_beat width address response 0 in
+    sym (get_or-map-range_with_len (d_beat width address response) 0 (response_beats response.op response.size width) 0 0 (d_beat width address response 0) (omega (arith, heads_law.response_some width response)) refl)
+    ∙ ap (λ (beats : List DBeat). get_or beats 0 (d_beat width address response 0)) e
+    ∙ get_or-map-range_with_len (d_beat width other_address other) 0 (response_beats other.op other.size width) 0 0 (d_beat width address response 0) (omega (arith, heads_law.response_some width other)) refl
+
+-- the beats of a response whose data begin on a lane
+back_from : ℕ → ℕ → Response → ℕ → DBeat
+back_from width first response number = record {
+  op = response.op;
+  size = response.size;
+  source = response.source;
+  denied = response.denied;
+  payload = cond response.denied 0 (on_bytes first (part width number response.payload));
+}
+
+same_lane_told : (width : ℕ) (request asked : Request) (response other : Response) → IsSentBack width request response → IsSentBack width asked other
+    → first_lane width other.size asked.address ≡ first_lane width other.size request.address
+    → beats_of_response width request.address response ≡ beats_of_response width asked.address other → told response ≡ told other
+unfolding back_from
+same_lane_told width request asked response other back back_too same e =
+    let moved : beats_of_response width asked.address other ≡ beats_of_response width request.address other =
+    ap (λ (first : ℕ). map (back_from width first other) (range_with_len 0 (response_beats other.op other.size width))) same in
+    ap (λ (o : Option Response). unwrap_or o (told response))
+    (sym (response_joined width request.address request response back) ∙ ap (joined_response width request.address) (e ∙ moved) ∙ response_joined width request.address asked other back_too)
+
+-- multiples of a number that differ are apart by it
+multiples_apart : (unit f g : ℕ) → 0 < unit → f % unit ≡ 0 → g % unit ≡ 0 → f < g → f + unit ≤ g
+multiples_apart unit f g some e d less =
+    let whole : f / unit * unit ≡ f = omega (arith, div-add-mod' f unit, e) in
+    let whole_too : g / unit * unit ≡ g = omega (arith, div-add-mod' g unit, d) in
+    let fewer : f / unit < g / unit = div_below f unit (g / unit) some (omega (arith, less, whole_too)) in
+    omega (arith, whole, whole_too, row_fits (f / unit) unit (g / unit) unit fewer (omega arith))
+
+apart_lanes : (unit f g j : ℕ) → 0 < unit → f % unit ≡ 0 → g % unit ≡ 0 → (f ≡ g → ⊥) → j < unit → g ≤ f + j → f + j < g + unit → ⊥
+apart_lanes unit f g j some e d differ within from to =
+    elim (cases_order f g) [
+      | inl same ↦ differ same
+      | inr other ↦ elim other [
+        | inl less ↦ omega (arith, multiples_apart unit f g some e d less, from, within)
+        | inr more ↦ omega (arith, multiples_apart unit g f some d e more, to)
+      ]
+    ]
+
+-- the first lane of a message smaller than the bus is a multiple of its bytes
+small_multiple : (width size times address : ℕ) → width ≡ bytes_of size * times → bytes_of size < width → address % bytes_of size ≡ 0 → first_lane width size address % bytes_of size ≡ 0
+small_multiple width size times address is below aligned =
+    ap (λ (n : ℕ). n % bytes_of size) (first_small width size address below) ∙ ap (λ (n : ℕ). address % n % bytes_of size) is ∙ mod-mul_first address (bytes_of size) times ∙ aligned
+
+-- a beat that belongs to two responses whose data begin on different lanes has no data but zeros
+zero_byte : (width : ℕ) (request asked : Request) (response other : Response) (j : ℕ) → IsSentBack width request response → IsSentBack width asked other → other.size ≡ response.size
+    → response.denied ≡ false → d_beat width request.address response 0 ≡ d_beat width asked.address other 0
+    → (first_lane width response.size request.address ≡ first_lane width other.size asked.address → ⊥) → j < bytes_of response.size → get_or response.payload j 0 ≡ 0
+zero_byte width request asked response other j back back_too sizes granted same differ within =
+    elim (compared width response.size (bus_of width back.sent.bus)) [
+      | larger times some is ↦
+          let large : width ≤ bytes_of response.size = omega (arith, is, times-le width times some) in
+          absurd (differ (first_large width response.size request.address large
+          ∙ sym (first_large width other.size asked.address (omega (arith, large, ap bytes_of sizes)))))
+      | smaller times some is below ↦
+          let first : ℕ = first_lane width response.size request.address in
+          let bytes_same : bytes_of other.size ≡ bytes_of response.size = ap bytes_of sizes in
+          let here : first_lane width response.size request.address % bytes_of response.size ≡ 0 = small_multiple width response.size times request.address is below (aligned_back width request response back) in
+          let there : first_lane width other.size asked.address % bytes_of response.size ≡ 0 =
+          sym (ap (λ (n : ℕ). first_lane width other.size asked.address % n) bytes_same)
+          ∙ small_multiple width other.size times asked.address (is ∙ ap (λ (n : ℕ). n * times) (sym bytes_same)) (omega (arith, below, bytes_same)) (aligned_back width asked other back_too) in
+          let none : IsActive width other.size asked.address (first_lane width response.size request.address + j) → ⊥ =
+          λ active. apart_lanes (bytes_of response.size) (first_lane width response.size request.address) (first_lane width other.size asked.address) j (pow_pos response.size) here there differ within active.from (omega (arith, active.to, bytes_same)) in
+          let start : 0 * width + j ≡ j = omega arith in
+          sym (ap (λ (n : ℕ). get_or response.payload n 0) start)
+          ∙ sym ((response_lanes width request response 0 back).bytes granted j (omega (arith, within, below)))
+          ∙ ap (λ (beat : DBeat). lane_of 256 (first_lane width response.size request.address + j) beat.payload) same
+          ∙ (response_lanes width asked other 0 back_too).other_bytes (first_lane width response.size request.address + j) none
+    ]
+
+-- a message has no byte, or one for each place
+payload_length : (width : ℕ) (request : Request) (response : Response) → IsSentBack width request response → length response.payload ≤ bytes_of response.size
+payload_length width request response back = all_or_none _ _ _ back.whole.answers.bytes
+
+same_length : (width : ℕ) (request asked : Request) (response other : Response) → IsSentBack width request response → IsSentBack width asked other → response.op ≡ other.op → response.size ≡ other.size
+    → length response.payload ≡ length other.payload
+same_length width request asked response other back back_too ops sizes =
+    back.whole.answers.bytes ∙ ap (λ (op : Ack). cond (brings_data op) (bytes_of response.size) 0) ops ∙ ap (λ (size : ℕ). cond (brings_data other.op) (bytes_of size) 0) sizes
+    ∙ sym back_too.whole.answers.bytes
+
+-- two responses with the same fields, and the same data where they aren't denied, tell the same
+told_parts : (response other : Response) → response.op ≡ other.op → response.size ≡ other.size → response.source ≡ other.source → response.denied ≡ other.denied
+    → length response.payload ≡ length other.payload → (response.denied ≡ false → response.payload ≡ other.payload) → told response ≡ told other
+unfolding answered
+told_parts response other ops sizes sources denials lengths payloads =
+    ap (λ (payload : List ℕ). answered response payload) (either_way response.denied payloads ∙ ap (λ (d : Bool). cond d (replicate (length other.payload) 0) other.payload) denials) ∙ cc
+  where
+    either_way : (d : Bool) → (d ≡ false → response.payload ≡ other.payload) → cond d (replicate (length response.payload) 0) response.payload ≡ cond d (replicate (length other.payload) 0) other.payload
+    either_way true h = ap (λ (n : ℕ). replicate n 0) lengths
+    either_way false h = h refl
+
+other_lane_told : (width : ℕ) (request asked : Request) (response other : Response) → IsSentBack width request response → IsSentBack width asked other
+    → (first_lane width response.size request.address ≡ first_lane width other.size asked.address → ⊥)
+    → d_beat width request.address response 0 ≡ d_beat width asked.address other 0 → told response ≡ told other
+other_lane_told width request asked response other back back_too differ same =
+    let sizes : response.size ≡ other.size = ap (λ (beat : DBeat). beat.size) same in
+    let ops : response.op ≡ other.op = ap (λ (beat : DBeat). beat.op) same in
+    let denials : response.denied ≡ other.denied = ap (λ (beat : DBeat). beat.denied) same in
+    let lengths : length response.payload ≡ length other.payload = same_length width request asked response other back back_too ops sizes in
+    told_parts response other ops sizes (ap (λ (beat : DBeat). beat.source) same) denials lengths
+    (λ granted.
+      ext_get_or 0 response.payload other.payload lengths
+      (λ j within.
+        zero_byte width request asked response other j back back_too (sym sizes) granted same differ (omega (arith, within, payload_length width request response back))
+        ∙ sym (zero_byte width asked request other response j back_too back sizes (sym denials ∙ granted) (sym same) (λ e. differ (sym e)) (omega (arith, within, lengths, payload_length width asked other back_too)))))
+
+same_told : (width : ℕ) (request asked : Request) (response other : Response) → IsSentBack width request response → IsSentBack width asked other
+    → beats_of_response width request.address response ≡ beats_of_response width asked.address other → told response ≡ told other
+same_told width request asked response other back back_too e =
+    let same : d_beat width request.address response 0 ≡ d_beat width asked.address other 0 = first_back width request.address asked.address response other e in
+    let sizes : response.size ≡ other.size = ap (λ (beat : DBeat). beat.size) same in
+    elim (cases_eq (first_lane width response.size request.address) (first_lane width other.size asked.address)) [
+      | inl here ↦ same_lane_told width request asked response other back back_too (sym here ∙ ap (λ (size : ℕ). first_lane width size request.address) sizes) e
+      | inr differ ↦ other_lane_told width request asked response other back back_too differ same
+    ]
 
 told_granted : (response : Response) → response.denied ≡ false → told response ≡ response
 unfolding answered
@@ -216,8 +347,8 @@ pub same_law : SameLaw
 same_law = record {
   requests = same_request;
   responses = same_told;
-  granted = λ width request response other bus is back back_too granted e.
-      let same : told response ≡ told other = same_told width request response other bus is back back_too e in
+  granted = λ width request asked response other back back_too granted e.
+      let same : told response ≡ told other = same_told width request asked response other back back_too e in
       let granted_too : other.denied ≡ false = sym (ap (λ (r : Response). r.denied) same) ∙ granted in
       sym (told_granted response granted) ∙ same ∙ told_granted other granted_too;
 }

@@ -17,46 +17,46 @@ use Rattle.tl_edge.proofs.Reading.{flat_map-map, same_law}
 
 -- ---- lists cut into pieces, each of which tells its length by its first item
 
-abbrev total_of : {B : Type 0} → (B → ℕ) → List B → ℕ
+abbrev pub total_of : {B : Type 0} → (B → ℕ) → List B → ℕ
 total_of total [] = 0
 total_of total (b ∷ rest) = total b
 
 -- a piece has as many items as its first one tells, and one at least
-record IsPiece {B : Type 0} (total : B → ℕ) (xs : List B) : Type 0 where
+pub record IsPiece {B : Type 0} (total : B → ℕ) (xs : List B) : Type 0 where
   pub some : 1 ≤ length xs
   pub is : total_of total xs ≡ length xs
 
 -- a short piece has fewer, if any
-record IsShort {B : Type 0} (total : B → ℕ) (xs : List B) : Type 0 where
+pub record IsShort {B : Type 0} (total : B → ℕ) (xs : List B) : Type 0 where
   pub is : 1 ≤ length xs → length xs < total_of total xs
 
-total_of-append : {B : Type 0} (total : B → ℕ) (xs ys : List B) → 1 ≤ length xs → total_of total (xs ++ ys) ≡ total_of total xs
+pub total_of-append : {B : Type 0} (total : B → ℕ) (xs ys : List B) → 1 ≤ length xs → total_of total (xs ++ ys) ≡ total_of total xs
 total_of-append total [] ys h = absurd (omega arith)
 total_of-append total (x ∷ xs) ys h = refl
 
-total_of-take : {B : Type 0} (total : B → ℕ) (k : ℕ) (xs : List B) → 1 ≤ length (take k xs) → total_of total (take k xs) ≡ total_of total xs
+pub total_of-take : {B : Type 0} (total : B → ℕ) (k : ℕ) (xs : List B) → 1 ≤ length (take k xs) → total_of total (take k xs) ≡ total_of total xs
 total_of-take total zero xs h = absurd (omega arith)
 total_of-take total (suc k) [] h = absurd (omega arith)
 total_of-take total (suc k) (x ∷ xs) h = refl
 
 -- two lists of one length with something behind them
-same_front : {B : Type 0} (xs ys us vs : List B) → length xs ≡ length ys → xs ++ us ≡ ys ++ vs → (xs ≡ ys) × (us ≡ vs)
+pub same_front : {B : Type 0} (xs ys us vs : List B) → length xs ≡ length ys → xs ++ us ≡ ys ++ vs → (xs ≡ ys) × (us ≡ vs)
 same_front xs ys us vs l e = (
   sym (take_at xs us (length xs) refl) ∙ ap (take (length xs)) e ∙ take_at ys vs (length xs) (sym l),
   sym (drop_at xs us (length xs) refl) ∙ ap (drop (length xs)) e ∙ drop_at ys vs (length xs) (sym l),
 )
 
 -- a short piece isn't the beginning of a whole one
-short_not_whole : {B : Type 0} (total : B → ℕ) (front piece more : List B) → IsShort total front → IsPiece total piece → front ≡ piece ++ more → ⊥
+pub short_not_whole : {B : Type 0} (total : B → ℕ) (front piece more : List B) → IsShort total front → IsPiece total piece → front ≡ piece ++ more → ⊥
 short_not_whole total front piece more short whole e =
     let long : length front ≡ length piece + length more = ap length e ∙ length-append piece more in
     let told_too : total_of total front ≡ total_of total piece = ap (λ (xs : List _). total_of total xs) e ∙ total_of-append total piece more whole.some in
     omega (arith, short.is (omega (arith, long, whole.some)), long, told_too, whole.is)
 
-joined : {B : Type 0} → List (List B) → List B
+unfoldable pub joined : {B : Type 0} → List (List B) → List B
 joined pieces = flat_map (λ piece. piece) pieces
 
-same_pieces : {B : Type 0} (total : B → ℕ) (pieces others : List (List B)) (front rest : List B) → AllByRecursion (IsPiece total) pieces → AllByRecursion (IsPiece total) others
+pub same_pieces : {B : Type 0} (total : B → ℕ) (pieces others : List (List B)) (front rest : List B) → AllByRecursion (IsPiece total) pieces → AllByRecursion (IsPiece total) others
     → IsShort total front → IsShort total rest → joined pieces ++ front ≡ joined others ++ rest → (pieces ≡ others) × (front ≡ rest)
 unfolding joined
 same_pieces total [] [] front rest ps os short short_too e = (refl, e)
@@ -73,11 +73,11 @@ same_pieces {B = B} total (piece ∷ pieces) (other ∷ others) front rest ps os
     (ap (λ (p : List B). p ∷ pieces) split.0 ∙ ap (λ (ps : List (List B)). other ∷ ps) later.0, later.1)
 
 -- the beats of a message are a piece, and the first of them a short one
-piece_of : {B : Type 0} (total : B → ℕ) (beat : ℕ → B) (count : ℕ) → 1 ≤ count → total (beat 0) ≡ count → IsPiece total (map beat (range_with_len 0 count))
+pub piece_of : {B : Type 0} (total : B → ℕ) (beat : ℕ → B) (count : ℕ) → 1 ≤ count → total (beat 0) ≡ count → IsPiece total (map beat (range_with_len 0 count))
 piece_of total beat zero h e = absurd (omega arith)
 piece_of total beat (suc count) h e = record { some = omega arith; is = e ∙ sym (length-map-range_with_len beat 0 (suc count)) }
 
-short_of : {B : Type 0} (total : B → ℕ) (beats front : List B) → IsPiece total beats → IsFront beats front → IsShort total front
+pub short_of : {B : Type 0} (total : B → ℕ) (beats front : List B) → IsPiece total beats → IsFront beats front → IsShort total front
 short_of {B = B} total beats front whole is = record {
   is = λ some.
       let few : length front ≡ is.count = ap length is.is ∙ length-take is.count beats ∙ omega (arith, is.short) in
@@ -85,7 +85,7 @@ short_of {B = B} total beats front whole is = record {
       omega (arith, few, told_too, whole.is, is.short);
 }
 
-short_nil : {B : Type 0} (total : B → ℕ) (front : List B) → front ≡ [] → IsShort total front
+pub short_nil : {B : Type 0} (total : B → ℕ) (front : List B) → front ≡ [] → IsShort total front
 short_nil total front e = record { is = λ some. absurd (omega (arith, some, ap length e)) }
 
 -- ---- equal lists
@@ -94,11 +94,11 @@ first_or : {A : Type 0} → A → List A → A
 first_or d [] = d
 first_or d (x ∷ xs) = x
 
-cons_parts : {A : Type 0} (x y : A) (xs ys : List A) → x ∷ xs ≡ y ∷ ys → (x ≡ y) × (xs ≡ ys)
+pub cons_parts : {A : Type 0} (x y : A) (xs ys : List A) → x ∷ xs ≡ y ∷ ys → (x ≡ y) × (xs ≡ ys)
 unfolding first_or
 cons_parts {A = A} x y xs ys e = (ap (λ (l : List A). first_or x l) e, ap (λ (l : List A). drop 1 l) e)
 
-nil_not_cons : {A : Type 0} (y : A) (ys : List A) → [] ≡ y ∷ ys → ⊥
+pub nil_not_cons : {A : Type 0} (y : A) (ys : List A) → [] ≡ y ∷ ys → ⊥
 nil_not_cons y ys e = let h : 0 ≡ suc (length ys) = ap length e in omega arith
 
 -- ---- requests
@@ -127,7 +127,7 @@ same_requests width [] (other ∷ others) bus all all_too e = absurd (nil_not_co
 same_requests width (request ∷ requests) [] bus all all_too e = absurd (nil_not_cons _ _ (sym e))
 same_requests width (request ∷ requests) (other ∷ others) bus all all_too e =
     let parts = cons_parts _ _ _ _ e in
-    let one : request ≡ other = same_law.requests width request other bus (All-head IsWholeRequest request requests all) (All-head IsWholeRequest other others all_too) parts.0 in
+    let one : request ≡ other = same_law.requests width request other (record { bus = bus; whole = All-head IsWholeRequest request requests all }) (record { bus = bus; whole = All-head IsWholeRequest other others all_too }) parts.0 in
     let rest : requests ≡ others = same_requests width requests others bus (All-tail IsWholeRequest request requests all) (All-tail IsWholeRequest other others all_too) parts.1 in
     ap (λ (r : Request). r ∷ requests) one ∙ ap (λ (rs : List Request). other ∷ rs) rest
 
@@ -166,12 +166,10 @@ short_response width front begins = elim begins [
 ]
 
 tells_same : (width : ℕ) (one other : Exchange) → IsTrue (is_width width) → IsExchange one → IsExchange other → beats_back width one ≡ beats_back width other → TellsSame one other
-tells_same width one other bus is is_too e same =
-    let P : Request → Type 0 = λ request. IsWholeResponse request other.response in
-    let back_too : IsWholeResponse one.request other.response = subst P (sym same) is_too.response in
-    let beats_too : beats_of_response width one.request.address one.response ≡ beats_of_response width one.request.address other.response =
-    e ∙ sym (ap (λ (request : Request). beats_of_response width request.address other.response) same) in
-    same_law.responses width one.request one.response other.response bus is.request is.response back_too beats_too
+tells_same width one other bus is is_too e =
+    same_law.responses width one.request other.request one.response other.response
+    (record { sent = record { bus = bus; whole = is.request }; whole = is.response })
+    (record { sent = record { bus = bus; whole = is_too.request }; whole = is_too.response }) e
 
 same_responses : (width : ℕ) (exchanges others : List Exchange) → IsTrue (is_width width) → All IsExchange exchanges → All IsExchange others
     → map (beats_back width) exchanges ≡ map (beats_back width) others → AllZip TellsSame exchanges others

@@ -43,13 +43,17 @@ most_lanes = 8
 -- ---- numbers on lanes
 
 -- the number with these digits in a base, the lowest first
-abbrev pub number : ℕ → List ℕ → ℕ
-number base [] = 0
-number base (digit ∷ digits) = digit + base * number base digits
+abbrev pub of_digits : ℕ → List ℕ → ℕ
+of_digits base [] = 0
+of_digits base (digit ∷ digits) = digit + base * of_digits base digits
 
 -- the number whose lanes from a first one on are these; the lanes before and behind them are 0
 abbrev pub on_lanes : ℕ → ℕ → List ℕ → ℕ
-on_lanes base first lanes = base ^ first * number base lanes
+on_lanes base first lanes = base ^ first * of_digits base lanes
+
+-- the mask of the active lanes: a bit for each lane of the bus, set for those on which the message stands
+abbrev pub active_mask : ℕ → ℕ → ℕ → ℕ
+active_mask width size address = on_lanes 2 (first_lane width size address) (replicate (lane_count width size) 1)
 
 -- bytes on lanes: a lane of data is eight bits
 abbrev pub on_bytes : ℕ → List ℕ → ℕ
@@ -59,13 +63,13 @@ on_bytes first bytes = on_lanes 256 first bytes
 abbrev pub on_bits : ℕ → List Bool → ℕ
 on_bits first flags = on_lanes 2 first (map from_bool flags)
 
--- what one beat, counted from 0, carries of a list: so many items as the bus has lanes, from the beat's own on
+-- what the beat with a number, counted from 0, carries of a list: as many items as the bus has lanes, from its own on
 abbrev pub part : {A : Type 0} → ℕ → ℕ → List A → List A
-part width beat items = take width (drop (beat * width) items)
+part width number items = take width (drop (number * width) items)
 
--- the data of one beat of a message of a size at an address
+-- the data of the beat with a number of a message of a size at an address
 abbrev pub data_on_lanes : ℕ → ℕ → ℕ → ℕ → List ℕ → ℕ
-data_on_lanes width size address beat bytes = on_bytes (first_lane width size address) (part width beat bytes)
+data_on_lanes width size address number bytes = on_bytes (first_lane width size address) (part width number bytes)
 
 -- ---- requests
 
@@ -73,16 +77,16 @@ data_on_lanes width size address beat bytes = on_bytes (first_lane width size ad
 abbrev pub flags_of : Request → List Bool
 flags_of request = cond (has_flags request.op) request.mask (replicate (bytes_of request.size) true)
 
--- one beat of a request, counted from 0
+-- the beat of a request with a number, counted from 0
 abbrev pub a_beat : ℕ → Request → ℕ → ABeat
-a_beat width request beat = record {
+a_beat width request number = record {
   op = request.op;
   param = request.param;
   size = request.size;
   source = request.source;
   address = request.address;
-  mask = on_bits (first_lane width request.size request.address) (part width beat (flags_of request));
-  payload = data_on_lanes width request.size request.address beat request.payload;
+  mask = on_bits (first_lane width request.size request.address) (part width number (flags_of request));
+  payload = data_on_lanes width request.size request.address number request.payload;
 }
 
 -- the beats of a request on a bus of some bytes
@@ -92,14 +96,14 @@ beats_of_request width request =
 
 -- ---- responses, to a request at an address; a denied one carries no data
 
--- one beat of a response, counted from 0
+-- the beat of a response with a number, counted from 0
 abbrev pub d_beat : ℕ → ℕ → Response → ℕ → DBeat
-d_beat width address response beat = record {
+d_beat width address response number = record {
   op = response.op;
   size = response.size;
   source = response.source;
   denied = response.denied;
-  payload = cond response.denied 0 (data_on_lanes width response.size address beat response.payload);
+  payload = cond response.denied 0 (data_on_lanes width response.size address number response.payload);
 }
 
 -- the beats of a response on a bus of some bytes

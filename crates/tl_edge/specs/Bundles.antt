@@ -1,7 +1,9 @@
 -- The widths of an edge's wires: the least numbers of bits that hold what crosses it.
 use Rattle.std.specs.Prelude.{ℕ, zero, suc, ◌-◌, ◌/◌, ◌^◌, ◌<◌, ◌≤◌, ◌≡◌, List, [], ◌∷◌, Contains, max, bit_or}
-use Rattle.dip_sets.specs.Sets.{Pattern, In}
-use Rattle.tl_params.specs.Operations.{largest}
+use Rattle.dip_sets.specs.Sets.{Pattern, In, InSome}
+use Rattle.dip_sets.specs.SizeRanges.{HasSize}
+use Rattle.tl_params.specs.Operations.{largest, sizes_of}
+use Rattle.tl_params.specs.declared.ops.Op.{Op}
 use Rattle.tl_params.specs.declared.ports.Slave.{Slave}
 use Rattle.tl_edge.specs.declared.bundle.Bundle.{Bundle}
 
@@ -63,9 +65,23 @@ pub record BitsLaw : Type 0 where
 
 -- the bundle of an edge with some slaves, ids from 0 to below an end, and a bus of some bytes
 abbrev pub bundle : List Slave → ℕ → ℕ → Bundle
-bundle slaves ids beat = record {
+bundle slaves ids width = record {
   address_bits = bits_for (greatest_address slaves);
-  data_bytes = beat;
+  data_bytes = width;
   source_bits = bits_for (ids - 1);
   size_bits = bits_for (log_of (largest_transfer slaves));
 }
+
+-- what the wires of a bundle hold: the source's each id below the end and no bit too many, the address's each address
+-- that a slave answers and no bit too many, the size's each exponent of a transfer that a slave supports
+pub record BundleLaw : Type 0 where
+  pub ids : (slaves : List Slave) (ids width id : ℕ) → id < ids → id < 2 ^ (bundle slaves ids width).source_bits
+  pub least_ids : (slaves : List Slave) (ids width bits : ℕ) → 1 ≤ bits → ((id : ℕ) → id < ids → id < 2 ^ bits)
+      → (bundle slaves ids width).source_bits ≤ bits
+  pub addresses : (slaves : List Slave) (ids width : ℕ) (slave : Slave) (address : ℕ) → Contains slaves slave
+      → InSome slave.addresses address → address < 2 ^ (bundle slaves ids width).address_bits
+  pub least_addresses : (slaves : List Slave) (ids width bits : ℕ) → 1 ≤ bits
+      → ((slave : Slave) (address : ℕ) → Contains slaves slave → InSome slave.addresses address → address < 2 ^ bits)
+      → (bundle slaves ids width).address_bits ≤ bits
+  pub sizes : (slaves : List Slave) (ids width : ℕ) (slave : Slave) (op : Op) (size : ℕ) → Contains slaves slave
+      → HasSize (sizes_of slave.supports op) (2 ^ size) → size < 2 ^ (bundle slaves ids width).size_bits

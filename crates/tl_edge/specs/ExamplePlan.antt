@@ -1,5 +1,5 @@
--- A sound plan with a leaf of each template: one source, whose ids a shrinker makes two, and behind a crossbar a
--- memory on a bus of eight bytes and a device on a bus of four.
+-- A sound plan with a leaf of each template: two sources, the four ids of the one made two by a shrinker, the three of
+-- the other rounded up to four, and behind a crossbar a memory on a bus of eight bytes and a device on a bus of four.
 use Rattle.std.specs.Prelude.{ℕ, List, [], ◌∷◌, codes}
 use Rattle.dip_sets.specs.SizeRanges.{SizeRange, size_range, no_sizes}
 use Rattle.tl_params.specs.declared.ops.Ops.{Ops}
@@ -26,19 +26,31 @@ reads_and_writes sizes =
       intent = no_sizes;
     }
 
+-- reads and writes of some sizes, and atomic operations on at most eight bytes
+abbrev pub with_atomics : SizeRange → Ops
+with_atomics sizes =
+    record {
+      get = sizes;
+      put_full = sizes;
+      put_partial = sizes;
+      arithmetic = size_range 1 8;
+      logical = size_range 1 8;
+      intent = no_sizes;
+    }
+
 -- a memory of 64 KiB
 abbrev pub memory : Slave
 memory = record {
-  node = 4;
+  node = 5;
   port = 0;
   addresses = record { base = 0x80000000; mask = 0xffff } ∷ [];
-  supports = reads_and_writes (size_range 1 64);
+  supports = with_atomics (size_range 1 64);
 }
 
 -- a device of 4 KiB, where transfers of these sizes can be taken
 abbrev pub device : SizeRange → Slave
 device sizes = record {
-  node = 7;
+  node = 8;
   port = 0;
   addresses = record { base = 0x10000000; mask = 0xfff } ∷ [];
   supports = reads_and_writes sizes;
@@ -46,7 +58,7 @@ device sizes = record {
 
 -- an edge with some slaves, ids from 0 to below an end, and a bus of some bytes
 abbrev pub edge : ℕ → ℕ → List Slave → PlanEdge
-edge beat ids slaves = record { bundle = bundle slaves ids beat; slaves = slaves; ids = ids }
+edge width ids slaves = record { bundle = bundle slaves ids width; slaves = slaves; ids = ids }
 
 -- a leaf of a template
 abbrev pub leaf : Template → List ℕ → List ℕ → List ℕ → Leaf
@@ -63,28 +75,32 @@ abbrev pub from_core : PlanEdge
 from_core = edge 8 4 (memory ∷ device (size_range 1 64) ∷ [])
 
 -- edge 1: from the shrinker to the crossbar
-abbrev pub to_crossbar : PlanEdge
-to_crossbar = edge 8 2 (memory ∷ device (size_range 1 64) ∷ [])
+abbrev pub from_shrinker : PlanEdge
+from_shrinker = edge 8 2 (memory ∷ device (size_range 1 64) ∷ [])
 
--- edge 2: from the crossbar to the buffer
+-- edge 2: from the copying engine to the crossbar
+abbrev pub from_dma : PlanEdge
+from_dma = edge 8 3 (memory ∷ device (size_range 1 64) ∷ [])
+
+-- edge 3: from the crossbar to the buffer, with the engine's ids 0 to 2 and the shrinker's moved to 4 and 5
 abbrev pub to_buffer : PlanEdge
-to_buffer = edge 8 2 (memory ∷ [])
+to_buffer = edge 8 6 (memory ∷ [])
 
--- edge 3: from the buffer to the memory
+-- edge 4: from the buffer to the memory
 abbrev pub to_memory : PlanEdge
-to_memory = edge 8 2 (memory ∷ [])
+to_memory = edge 8 6 (memory ∷ [])
 
--- edge 4: from the crossbar to the width adapter
+-- edge 5: from the crossbar to the width adapter
 abbrev pub to_width : PlanEdge
-to_width = edge 8 2 (device (size_range 1 64) ∷ [])
+to_width = edge 8 6 (device (size_range 1 64) ∷ [])
 
--- edge 5: from the width adapter to the fragmenter
+-- edge 6: from the width adapter to the fragmenter
 abbrev pub to_fragmenter : PlanEdge
-to_fragmenter = edge 4 2 (device (size_range 1 64) ∷ [])
+to_fragmenter = edge 4 6 (device (size_range 1 64) ∷ [])
 
--- edge 6: from the fragmenter to the device, in transfers of at most a beat
+-- edge 7: from the fragmenter to the device, in transfers of at most a beat
 abbrev pub to_device : PlanEdge
-to_device = edge 4 2 (device (size_range 1 4) ∷ [])
+to_device = edge 4 6 (device (size_range 1 4) ∷ [])
 
 -- ---- the leaves and ports
 
@@ -92,33 +108,37 @@ to_device = edge 4 2 (device (size_range 1 4) ∷ [])
 abbrev pub shrinker : Leaf
 shrinker = leaf Shrinker (2 ∷ []) (0 ∷ []) (1 ∷ [])
 
--- joins the core to memory and device
+-- joins the two sources to memory and device
 abbrev pub crossbar : Leaf
-crossbar = leaf Xbar [] (1 ∷ []) (2 ∷ 4 ∷ [])
+crossbar = leaf Xbar [] (1 ∷ 2 ∷ []) (3 ∷ 5 ∷ [])
 
 -- before the memory
 abbrev pub buffer : Leaf
-buffer = leaf Buffer [] (2 ∷ []) (3 ∷ [])
+buffer = leaf Buffer [] (3 ∷ []) (4 ∷ [])
 
 -- from eight bytes to four
 abbrev pub width_adapter : Leaf
-width_adapter = leaf Width (8 ∷ []) (4 ∷ []) (5 ∷ [])
+width_adapter = leaf Width (8 ∷ []) (5 ∷ []) (6 ∷ [])
 
 -- cuts transfers to 64 bytes into pieces of 4
 abbrev pub fragmenter : Leaf
-fragmenter = leaf Fragmenter (4 ∷ 64 ∷ []) (5 ∷ []) (6 ∷ [])
+fragmenter = leaf Fragmenter (4 ∷ 64 ∷ []) (6 ∷ []) (7 ∷ [])
 
--- where requests enter
+-- where the core's requests enter
 abbrev pub core : PlanPort
 core = example_port (codes "core") 0 0
 
+-- where those of the copying engine do
+abbrev pub dma : PlanPort
+dma = example_port (codes "dma") 1 2
+
 -- where those to the memory leave
 abbrev pub ram : PlanPort
-ram = example_port (codes "ram") 4 3
+ram = example_port (codes "ram") 5 4
 
 -- where those to the device leave
 abbrev pub uart : PlanPort
-uart = example_port (codes "uart") 7 6
+uart = example_port (codes "uart") 8 7
 
 -- the whole plan
 abbrev pub example : Plan
@@ -126,8 +146,9 @@ example = record {
   name = codes "example";
   policy = Lowest;
   leaves = shrinker ∷ crossbar ∷ buffer ∷ width_adapter ∷ fragmenter ∷ [];
-  edges = from_core ∷ to_crossbar ∷ to_buffer ∷ to_memory ∷ to_width ∷ to_fragmenter ∷ to_device ∷ [];
-  sources = core ∷ [];
+  edges =
+      from_core ∷ from_shrinker ∷ from_dma ∷ to_buffer ∷ to_memory ∷ to_width ∷ to_fragmenter ∷ to_device ∷ [];
+  sources = core ∷ dma ∷ [];
   sinks = ram ∷ uart ∷ [];
 }
 

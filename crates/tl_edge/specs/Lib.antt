@@ -5,6 +5,7 @@ pub mod ExamplePlan
 pub mod Joined
 pub mod Legal
 pub mod Messages
+pub mod PlanLaws
 pub mod Plans
 pub mod SoundPlans
 pub mod Spelling

@@ -35,8 +35,8 @@ abbrev pub joined_slaves : List PlanEdge → List Slave
 joined_slaves edges = flat_map (λ (edge : PlanEdge). edge.slaves) edges
 
 -- the width of an edge's bus, in bytes
-abbrev pub beat_of : PlanEdge → ℕ
-beat_of edge = edge.bundle.data_bytes
+abbrev pub width_of : PlanEdge → ℕ
+width_of edge = edge.bundle.data_bytes
 
 -- ---- who puts requests onto edges, and who takes them
 
@@ -57,23 +57,43 @@ abbrev pub times : ℕ → List ℕ → ℕ
 times number [] = 0
 times number (other ∷ others) = cond (number == other) 1 0 + times number others
 
--- ---- ways from leaf to leaf
+-- the place among a leaf's outs, or a source port, by their numbers
+pub data Giver : Type 0 where
+  Out : (leaf place : ℕ) → Giver
+  Source : (port : ℕ) → Giver
 
--- an edge goes from the one leaf to the other
-pub record IsJoined (plan : Plan) (leaf other : ℕ) : Type 0 where
-  pub above : Leaf
-  pub below : Leaf
-  pub edge : ℕ
-  pub from : slice_get plan.leaves leaf ≡ Some above
-  pub to : slice_get plan.leaves other ≡ Some below
-  pub out : Contains above.outs edge
-  pub taken : Contains below.ins edge
+-- the place among a leaf's ins, or a sink port, by their numbers
+pub data Taker : Type 0 where
+  In : (leaf place : ℕ) → Taker
+  Sink : (port : ℕ) → Taker
 
--- from a leaf over others to a last one, each joined to the next.
-abbrev pub IsWay : Plan → ℕ → List ℕ → ℕ → Type 0
-IsWay plan leaf [] last = IsJoined plan leaf last
-IsWay plan leaf (next ∷ others) last = IsJoined plan leaf next × IsWay plan next others last
+-- a giver puts requests onto an edge
+abbrev pub Gives : Plan → ℕ → Giver → Type 0
+Gives plan edge (Out leaf place) =
+    (above : Leaf) × (slice_get plan.leaves leaf ≡ Some above) × (slice_get above.outs place ≡ Some edge)
+Gives plan edge (Source port) = (at : PlanPort) × (slice_get plan.sources port ≡ Some at) × (at.edge ≡ edge)
 
--- a leaf reaches another along edges.
-abbrev pub Reaches : Plan → ℕ → ℕ → Type 0
-Reaches plan leaf other = (between : List ℕ) × IsWay plan leaf between other
+-- a taker takes them from it
+abbrev pub Takes : Plan → ℕ → Taker → Type 0
+Takes plan edge (In leaf place) =
+    (below : Leaf) × (slice_get plan.leaves leaf ≡ Some below) × (slice_get below.ins place ≡ Some edge)
+Takes plan edge (Sink port) = (at : PlanPort) × (slice_get plan.sinks port ≡ Some at) × (at.edge ≡ edge)
+
+-- ---- ways from edge to edge
+
+-- requests go from an edge on to the next: a leaf takes from the one and gives to the other
+pub record Follows (plan : Plan) (edge next : ℕ) : Type 0 where
+  pub leaf : ℕ
+  pub through : Leaf
+  pub is : slice_get plan.leaves leaf ≡ Some through
+  pub taken : Contains through.ins edge
+  pub given : Contains through.outs next
+
+-- a way: from an edge over others in a row, each followed by the next
+abbrev pub IsWay : Plan → ℕ → List ℕ → Type 0
+IsWay plan edge [] = Unit {0}
+IsWay plan edge (next ∷ others) = Follows plan edge next × IsWay plan next others
+
+-- no way comes back to the edge from which it starts
+abbrev pub NoneReturns : Plan → Type 0
+NoneReturns plan = (edge : ℕ) (others : List ℕ) → IsWay plan edge others → Contains others edge → ⊥

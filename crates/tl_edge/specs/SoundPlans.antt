@@ -20,7 +20,7 @@ use Rattle.tl_edge.specs.declared.plan.PlanEdge.{PlanEdge}
 use Rattle.tl_edge.specs.declared.plan.PlanPort.{PlanPort}
 use Rattle.tl_edge.specs.declared.plan.Plan.{Plan}
 use Rattle.tl_edge.specs.Bundles.{bundle}
-use Rattle.tl_edge.specs.Plans.{edge_at, ins_of, outs_of, joined_slaves, beat_of, given_edges, taken_edges, times, Reaches}
+use Rattle.tl_edge.specs.Plans.{edge_at, ins_of, outs_of, joined_slaves, width_of, given_edges, taken_edges, times, NoneReturns}
 
 -- ---- an edge by itself
 
@@ -38,8 +38,8 @@ HasRanges slave = (op : Op) → IsTrue (is_size_range (sizes_of slave.supports o
 pub record IsSoundEdge (edge : PlanEdge) : Type 0 where
   pub some_ids : 1 ≤ edge.ids
   pub few_ids : edge.ids ≤ 1024
-  pub beat : IsTrue (is_width (beat_of edge))
-  pub bundle : edge.bundle ≡ bundle edge.slaves edge.ids (beat_of edge)
+  pub width : IsTrue (is_width (width_of edge))
+  pub bundle : edge.bundle ≡ bundle edge.slaves edge.ids (width_of edge)
   pub addressed : All (λ (slave : Slave). 1 ≤ length slave.addresses) edge.slaves
   pub sets : HaveSets edge.slaves
   pub sizes : All HasRanges edge.slaves
@@ -65,14 +65,14 @@ abbrev pub Shows : Option SizeRange → List PlanEdge → PlanEdge → Type 0
 Shows pieces others edge = IsTrue (slaves_fit pieces edge.slaves (joined_slaves others))
 
 -- buses of different widths meet at a width adapter alone
-abbrev pub BeatsAgree : Template → List PlanEdge → Type 0
-BeatsAgree Width edges = All (λ edge. IsTrue (is_width (beat_of edge))) edges
-BeatsAgree _ edges = AllPairs (λ edge other. beat_of edge ≡ beat_of other) edges
+abbrev pub WidthsAgree : Template → List PlanEdge → Type 0
+WidthsAgree Width edges = All (λ edge. IsTrue (is_width (width_of edge))) edges
+WidthsAgree _ edges = AllPairs (λ edge other. width_of edge ≡ width_of other) edges
 
 -- a fragmenter's pieces have at least the bytes of one beat of what they go to
 abbrev pub FillBeats : Option SizeRange → List PlanEdge → Type 0
 FillBeats None outs = ⊥
-FillBeats (Some fragments) outs = All (λ edge. beat_of edge ≤ fragments.min) outs
+FillBeats (Some fragments) outs = All (λ edge. width_of edge ≤ fragments.min) outs
 
 -- the arguments of a leaf are such as its template takes, and fit its out edges
 abbrev pub ArgumentsAgree : Template → List ℕ → List PlanEdge → Type 0
@@ -83,7 +83,7 @@ ArgumentsAgree _ args outs = Unit {0}
 -- a leaf can carry what its edges agree on
 pub record Carries (template : Template) (args : List ℕ) (ins outs : List PlanEdge) : Type 0 where
   pub slaves : All (Shows (pieces_of template args) outs) ins
-  pub beats : BeatsAgree template (ins ++ outs)
+  pub widths : WidthsAgree template (ins ++ outs)
   pub arguments : ArgumentsAgree template args outs
 
 -- how many ids some edges have
@@ -136,7 +136,7 @@ pub record IsSound (plan : Plan) : Type 0 where
   pub given_once : (edge : ℕ) → edge < length plan.edges → times edge (given_edges plan) ≡ 1
   pub taken_once : (edge : ℕ) → edge < length plan.edges → times edge (taken_edges plan) ≡ 1
   pub shaped : All (λ (leaf : Leaf). HasShape leaf.template leaf.ins leaf.outs) plan.leaves
-  pub acyclic : (leaf : ℕ) → Reaches plan leaf leaf → ⊥
+  pub acyclic : NoneReturns plan
   pub edges : All IsSoundEdge plan.edges
   pub carries :
       All (λ (leaf : Leaf). Carries leaf.template leaf.args (ins_of plan leaf) (outs_of plan leaf)) plan.leaves

@@ -1,14 +1,14 @@
-ghost use Rattle.std.specs.Prelude.{◌≡◌, ◌+◌, ◌^◌, ◌≤◌, ◌<◌, length, replicate, IsTrue};
+ghost use Rattle.std.specs.Prelude.{◌≡◌, ◌+◌, ◌^◌, ◌%◌, ◌≤◌, ◌<◌, length, replicate, IsTrue};
 ghost use Rattle.tl_params.specs.Arguments.{is_width};
 ghost use Rattle.tl_edge.specs.Beats as spec;
 ghost use Rattle.tl_edge.specs.Messages.{bytes_of};
 
-// The lanes of the bus on which a message stands.
+/// The lanes of the bus on which a message stands.
 #[derive(Clone, Copy)]
 pub(crate) struct Lanes {
-    // The lowest of them.
+    /// The lowest of them.
     pub first: u32,
-    // How many there are.
+    /// How many there are.
     pub count: u32,
 }
 
@@ -39,7 +39,18 @@ impl Lanes {
     }
 }
 
-// How many beats data of a size takes.
+/// The mask of the lanes of a bus of `width` bytes on which a message of `2^size` bytes at an address stands:
+/// a bit for each lane, the lowest for lane 0.
+pub fn active_lanes(width: u32, size: u32, address: u64) -> u64
+    requires width { IsTrue (is_width width) }
+    requires size { size ≤ 8 }
+    requires aligned { address % bytes_of size ≡ 0 }
+    ensures { result ≡ spec.active_mask width size address }
+{
+    Lanes::of(width, size, address).mask()
+}
+
+/// How many beats data of a size takes.
 pub(crate) fn data_beats(size: u32, width: u32) -> u32
     requires size { size ≤ 8 }
     requires width { IsTrue (is_width width) }
@@ -48,19 +59,19 @@ pub(crate) fn data_beats(size: u32, width: u32) -> u32
     ((1 << size) / width).max(1)
 }
 
-// What one beat carries of a list.
-pub(crate) fn part<T>(items: &[T], width: u32, beat: u32) -> &[T]
+/// What the beat with a number, from 0, carries of a list.
+pub(crate) fn part<T>(items: &[T], width: u32, number: u32) -> &[T]
     requires width { width ≤ spec.most_lanes }
-    requires beat { beat ≤ 256 }
+    requires number { number ≤ 256 }
     requires few { length items.now ≤ 256 }
-    ensures { result.now ≡ spec.part width beat items.now }
+    ensures { result.now ≡ spec.part width number items.now }
 {
-    let start = ((beat * width) as usize).min(items.len());
+    let start = ((number * width) as usize).min(items.len());
     let end = (start + width as usize).min(items.len());
     &items[start..end]
 }
 
-// The number with these bytes on the lanes from a first one on.
+/// The number with these bytes on the lanes from a first one on.
 pub(crate) fn on_bytes(first: u32, bytes: &[u8]) -> u64
     requires { first + length bytes.now ≤ spec.most_lanes }
     ensures { result ≡ spec.on_bytes first bytes.now }
@@ -72,7 +83,7 @@ pub(crate) fn on_bytes(first: u32, bytes: &[u8]) -> u64
     lanes
 }
 
-// The number with these flags on the lanes from a first one on.
+/// The number with these flags on the lanes from a first one on.
 pub(crate) fn on_bits(first: u32, flags: &[bool]) -> u64
     requires { first + length flags.now ≤ spec.most_lanes }
     ensures { result ≡ spec.on_bits first flags.now }

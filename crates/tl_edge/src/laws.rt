@@ -1,6 +1,7 @@
-ghost use Rattle.tl_edge.specs.BeatLaws.{HeadsLaw, JoinLaw, LanesLaw, SameLaw};
-ghost use Rattle.tl_edge.specs.Bundles.{BitsLaw};
-ghost use Rattle.tl_edge.specs.Spelling.{PrefixLaw, SpellingLaw};
+ghost use Rattle.tl_edge.specs.BeatLaws.{ActiveLaw, HeadsLaw, JoinLaw, LanesLaw, SameLaw};
+ghost use Rattle.tl_edge.specs.Bundles.{BitsLaw, BundleLaw};
+ghost use Rattle.tl_edge.specs.Legal.{LegalLaw};
+ghost use Rattle.tl_edge.specs.Spelling.{MoreLaw, NextLaw, PrefixLaw, SpellingLaw};
 
 /// What the widths of a bundle's wires mean: they are least numbers of bits, of the greatest address that a
 /// slave answers and of the exponent of the largest transfer that one supports.
@@ -8,9 +9,20 @@ pub fn bits_law()
     ensures { BitsLaw }
 {}
 
+/// The wires of a bundle hold the ids of its edge, the addresses of its slaves and the sizes of their transfers,
+/// with no bit too many for ids and addresses.
+pub fn bundle_law()
+    ensures { BundleLaw }
+{}
+
 /// The control fields are constant over the beats of a message, of which there are as many as stated.
 pub fn heads_law()
     ensures { HeadsLaw }
+{}
+
+/// Which lanes are active, and the mask that has them.
+pub fn active_law()
+    ensures { ActiveLaw }
 {}
 
 /// What each lane of each beat of a message holds.
@@ -23,12 +35,12 @@ pub fn join_law()
     ensures { JoinLaw }
 {}
 
-/// Messages with the same beats are the same.
+/// Messages with the same beats are the same, but for the data of a denied response.
 pub fn same_law()
     ensures { SameLaw }
 {}
 
-/// A list of beats spells one list of messages at most.
+/// A list of beats spells one list of messages at most, but for the data of denied responses.
 pub fn spelling_law()
     ensures { SpellingLaw }
 {}
@@ -37,4 +49,19 @@ pub fn spelling_law()
 /// the next one.
 pub fn prefix_law()
     ensures { PrefixLaw }
+{}
+
+/// Each of some beats in a row is a beat of one of their messages: which one, and with which number.
+pub fn next_law()
+    ensures { NextLaw }
+{}
+
+/// What beats in a row spell when one more comes.
+pub fn more_law()
+    ensures { MoreLaw }
+{}
+
+/// A request that is legal by masters is legal on their edge, and an owned address has at most 48 bits.
+pub fn legal_law()
+    ensures { LegalLaw }
 {}

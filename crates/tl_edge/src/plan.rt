@@ -1,4 +1,5 @@
 ghost use Rattle.tl_edge.specs.ExamplePlan.{SomePlanIsSound};
+ghost use Rattle.tl_edge.specs.PlanLaws.{EndsLaw, WaysLaw};
 
 use crate::Bundle;
 use dip_lists::Items;
@@ -68,4 +69,14 @@ pub struct Plan {
 /// A plan with a leaf of each template is sound, so that what is promised of sound plans is promised of some.
 pub fn sound_plan_law()
     ensures { SomePlanIsSound }
+{}
+
+/// Each edge of a sound plan has one giver and one taker, and there are at most 1,024 leaves, sources and sinks.
+pub fn ends_law()
+    ensures { EndsLaw }
+{}
+
+/// No edge stands twice on a way through a sound plan, so the way is no longer than the plan has edges.
+pub fn ways_law()
+    ensures { WaysLaw }
 {}

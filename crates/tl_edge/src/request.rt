@@ -25,27 +25,27 @@ pub fn beats(op: Op, size: u32, width: u32) -> u32
 }
 
 // The lanes that one beat of a request marks.
-fn mask_of(width: u32, request: &Request, beat: u32, lanes: Lanes) -> u64
+fn mask_of(width: u32, request: &Request, number: u32, lanes: Lanes) -> u64
     requires width { IsTrue (is_width width) }
     requires request { messages.IsRequest request.now }
-    requires beat { beat < spec.request_beats request.now.op request.now.size width }
+    requires number { number < spec.request_beats request.now.op request.now.size width }
     requires first { lanes.first ≡ spec.first_lane width request.now.size request.now.address }
     requires count { lanes.count ≡ spec.lane_count width request.now.size }
-    ensures { result ≡ spec.on_bits lanes.first (spec.part width beat (spec.flags_of request.now)) }
+    ensures { result ≡ spec.on_bits lanes.first (spec.part width number (spec.flags_of request.now)) }
 {
     if has_flags(request.op) {
-        on_bits(lanes.first, part(request.mask.as_slice(), width, beat))
+        on_bits(lanes.first, part(request.mask.as_slice(), width, number))
     } else {
         lanes.mask()
     }
 }
 
-// One beat of a request.
-fn a_beat(width: u32, request: &Request, beat: u32) -> ABeat
+/// The beat of a request with a number, from 0, on a bus of `width` bytes.
+pub fn a_beat(width: u32, request: &Request, number: u32) -> ABeat
     requires width { IsTrue (is_width width) }
     requires request { messages.IsRequest request.now }
-    requires beat { beat < spec.request_beats request.now.op request.now.size width }
-    ensures { result ≡ spec.a_beat width request.now beat }
+    requires number { number < spec.request_beats request.now.op request.now.size width }
+    ensures { result ≡ spec.a_beat width request.now number }
 {
     let lanes = Lanes::of(width, request.size, request.address);
     ABeat {
@@ -54,8 +54,8 @@ fn a_beat(width: u32, request: &Request, beat: u32) -> ABeat
         size: request.size,
         source: request.source,
         address: request.address,
-        mask: mask_of(width, request, beat, lanes),
-        payload: on_bytes(lanes.first, part(request.payload.as_slice(), width, beat)),
+        mask: mask_of(width, request, number, lanes),
+        payload: on_bytes(lanes.first, part(request.payload.as_slice(), width, number)),
     }
 }
 
@@ -66,8 +66,8 @@ pub fn a_beats(alloc: Global, width: u32, request: &Request) -> Result<ABeats, M
     ensures { IfOk result (λ list. list ≡ spec.beats_of_request width request.now) }
 {
     let mut list = Items::new(alloc);
-    for beat in 0..beats(request.op, request.size, width) {
-        list.push(a_beat(width, request, beat))?;
+    for number in 0..beats(request.op, request.size, width) {
+        list.push(a_beat(width, request, number))?;
     }
     Ok(list)
 }

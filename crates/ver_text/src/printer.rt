@@ -426,8 +426,8 @@ fn laid_out(alloc: Global, netlist: &Netlist) -> Result<Bytes, Memory>
     Ok(text.into_bytes())
 }
 
-/// The text of a netlist, in the one layout: it spells the netlist, and is read back as it. The error is want of
-/// memory.
+/// The text of a netlist, in the one layout: it spells the netlist, and is read back as it. The error is
+/// want of memory.
 #[tactic(auto, using(crate::proofs::PrintedTexts::text_spells, crate::proofs::PrintedTexts::text_read))]
 pub fn print(alloc: Global, netlist: &Netlist) -> Result<Bytes, Memory>
     requires { IsWellFormed netlist.now }

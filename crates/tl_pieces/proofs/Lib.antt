@@ -1,0 +1,4 @@
+pub mod Parts
+pub mod PieceBeats
+pub mod Pieces
+pub mod Replies
