@@ -87,11 +87,11 @@ taker plan edge sound within = elim (one_end (λ (leaf : Leaf). leaf.ins) plan.l
     at_port at (In l q) g = absurd (at.none l q g)
     at_port at (Sink port) g = ap (λ (n : ℕ). Sink n) (at.one port g)
 
-given_within : (plan : Plan) (edge : ℕ) (giver : Giver) → IsSound plan → Gives plan edge giver → edge < length plan.edges
-given_within plan edge (Out leaf place) sound g =
-    All-contains (λ e. e < length plan.edges) (given_edges plan) edge sound.given (leaf_listed (λ (leaf : Leaf). leaf.outs) plan.leaves plan.sources edge leaf place g)
-given_within plan edge (Source port) sound g =
-    All-contains (λ e. e < length plan.edges) (given_edges plan) edge sound.given (port_listed (λ (leaf : Leaf). leaf.outs) plan.leaves plan.sources edge port g)
+given_within : (plan : Plan) (edge : ℕ) (giver : Giver) → All (λ e. e < length plan.edges) (given_edges plan) → Gives plan edge giver → edge < length plan.edges
+given_within plan edge (Out leaf place) given g =
+    All-contains (λ e. e < length plan.edges) (given_edges plan) edge given (leaf_listed (λ (leaf : Leaf). leaf.outs) plan.leaves plan.sources edge leaf place g)
+given_within plan edge (Source port) given g =
+    All-contains (λ e. e < length plan.edges) (given_edges plan) edge given (port_listed (λ (leaf : Leaf). leaf.outs) plan.leaves plan.sources edge port g)
 
 taken_within : (plan : Plan) (edge : ℕ) (taker : Taker) → IsSound plan → Takes plan edge taker → edge < length plan.edges
 taken_within plan edge (In leaf place) sound g =
@@ -127,7 +127,7 @@ pub ends_law : EndsLaw
 ends_law = record {
   giver = giver;
   taker = taker;
-  given = given_within;
+  given = λ plan edge giver sound. given_within plan edge giver sound.given;
   taken = taken_within;
   givers = few_givers;
   takers = few_takers;
@@ -157,20 +157,21 @@ way_distinct plan none edge [] way = (tt, tt)
 way_distinct plan none edge (next ∷ others) way = (never edge (next ∷ others) (none edge (next ∷ others) way), way_distinct plan none next others way.1)
 
 -- what follows an edge is an edge of the plan
-pub follower_within : (plan : Plan) (edge next : ℕ) → IsSound plan → Follows plan edge next → next < length plan.edges
-follower_within plan edge next sound f =
+pub follower_within : (plan : Plan) (edge next : ℕ) → All (λ e. e < length plan.edges) (given_edges plan) → Follows plan edge next → next < length plan.edges
+follower_within plan edge next given f =
     let at : slice_get f.through.outs f.given.0 ≡ Some next =
     slice_get-get_or f.through.outs f.given.0 next f.given.1 ∙ ap (λ (n : ℕ). Some n) f.given.2 in
-    given_within plan next (Out f.leaf f.given.0) sound (f.through, f.is, at)
+    given_within plan next (Out f.leaf f.given.0) given (f.through, f.is, at)
 
-way_within : (plan : Plan) (edge : ℕ) (others : List ℕ) → IsSound plan → edge < length plan.edges → IsWay plan edge others → All (λ e. e < length plan.edges) (edge ∷ others)
-way_within plan edge [] sound within way = All-cons (λ e. e < length plan.edges) edge [] within (All-nil (λ e. e < length plan.edges))
-way_within plan edge (next ∷ others) sound within way =
-    All-cons (λ e. e < length plan.edges) edge (next ∷ others) within (way_within plan next others sound (follower_within plan edge next sound way.0) way.1)
+way_within : (plan : Plan) (edge : ℕ) (others : List ℕ) → All (λ e. e < length plan.edges) (given_edges plan) → edge < length plan.edges → IsWay plan edge others → All (λ e. e < length plan.edges) (edge ∷ others)
+way_within plan edge [] given within way = All-cons (λ e. e < length plan.edges) edge [] within (All-nil (λ e. e < length plan.edges))
+way_within plan edge (next ∷ others) given within way =
+    All-cons (λ e. e < length plan.edges) edge (next ∷ others) within (way_within plan next others given (follower_within plan edge next given way.0) way.1)
 
-pub short_way : (plan : Plan) (edge : ℕ) (others : List ℕ) → IsSound plan → edge < length plan.edges → IsWay plan edge others → length (edge ∷ others) ≤ length plan.edges
-short_way plan edge others sound within way =
-    few_distinct (edge ∷ others) (length plan.edges) (way_distinct plan sound.acyclic edge others way) (way_within plan edge others sound within way)
+short_way : (plan : Plan) (edge : ℕ) (others : List ℕ) → NoneReturns plan → All (λ e. e < length plan.edges) (given_edges plan) → edge < length plan.edges → IsWay plan edge others
+    → length (edge ∷ others) ≤ length plan.edges
+short_way plan edge others none given within way =
+    few_distinct (edge ∷ others) (length plan.edges) (way_distinct plan none edge others way) (way_within plan edge others given within way)
 
 -- a way as far as an edge on it, and one step more
 one_more : (plan : Plan) (first : ℕ) (others : List ℕ) (back next : ℕ) → IsWay plan first others → Contains (first ∷ others) back → Follows plan back next → (between : List ℕ) × IsWay plan first (between ++ next ∷ [])
@@ -191,7 +192,7 @@ never_back plan leaf given taken others sound listed out way on into =
 pub ways_law : WaysLaw
 ways_law = record {
   apart = λ plan edge others sound. pairs_apart plan sound.acyclic edge others;
-  short = short_way;
+  short = λ plan edge others sound. short_way plan edge others sound.acyclic sound.given;
   left = never_back;
 }
 
@@ -203,9 +204,9 @@ descend plan P step zero edge few = let n : length {A = ℕ} [] < 0 = few [] tt 
 descend plan P step (suc more) edge few =
     step edge (λ next f. descend plan P step more next (λ others way. let n : length (next ∷ others) < suc more = few (next ∷ others) (f, way) in omega arith))
 
-pub edge_by_edge : (plan : Plan) (P : ℕ → Type 0) → IsSound plan → ((edge : ℕ) → ((next : ℕ) → Follows plan edge next → P next) → P edge) → (edge : ℕ) → P edge
-edge_by_edge plan P sound step edge = descend plan P step (suc (length plan.edges)) edge few
+pub edge_by_edge : (plan : Plan) (P : ℕ → Type 0) → NoneReturns plan → All (λ e. e < length plan.edges) (given_edges plan) → ((edge : ℕ) → ((next : ℕ) → Follows plan edge next → P next) → P edge) → (edge : ℕ) → P edge
+edge_by_edge plan P none given step edge = descend plan P step (suc (length plan.edges)) edge few
   where
     few : (others : List ℕ) → IsWay plan edge others → length others < suc (length plan.edges)
     few [] way = omega arith
-    few (next ∷ others) way = omega (arith, short_way plan next others sound (follower_within plan edge next sound way.0) way.1)
+    few (next ∷ others) way = omega (arith, short_way plan next others none given (follower_within plan edge next given way.0) way.1)

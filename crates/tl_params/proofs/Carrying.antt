@@ -51,12 +51,12 @@ pattern base mask = record { base = base; mask = mask }
 same_pattern : (s t : Pattern) → s.base ≡ t.base → s.mask ≡ t.mask → s ≡ t
 same_pattern s t b m = ap (λ (x : ℕ). pattern x s.mask) b ∙ ap (λ (y : ℕ). pattern t.base y) m
 
-same_set : (s t : Pattern) → IsTrue (is_same_set s t) → s ≡ t
+pub same_set : (s t : Pattern) → IsTrue (is_same_set s t) → s ≡ t
 same_set s t h =
     let tests = both (s.base == t.base) (s.mask == t.mask) h in
     same_pattern s t (eqb-true s.base t.base tests.0) (eqb-true s.mask t.mask tests.1)
 
-same_sets : (xs ys : List Pattern) → IsTrue (all_zip is_same_set xs ys) → xs ≡ ys
+pub same_sets : (xs ys : List Pattern) → IsTrue (all_zip is_same_set xs ys) → xs ≡ ys
 same_sets [] [] h = refl
 same_sets [] (y ∷ ys) h = absurd cc
 same_sets (x ∷ xs) [] h = absurd cc

@@ -24,17 +24,17 @@ module _ {X : Type 0} where
   all_right P [] ys h = h
   all_right P (x ∷ xs) ys h = all_right P xs ys (All-tail P x (xs ++ ys) h)
 
-  get_left : (xs ys : List X) (i : ℕ) (x : X) → slice_get xs i ≡ Some x → slice_get (xs ++ ys) i ≡ Some x
+  pub get_left : (xs ys : List X) (i : ℕ) (x : X) → slice_get xs i ≡ Some x → slice_get (xs ++ ys) i ≡ Some x
   get_left [] ys i x e = absurd (cc)
   get_left (a ∷ xs) ys zero x e = e
   get_left (a ∷ xs) ys (suc i) x e = get_left xs ys i x e
 
-  get_right : (xs ys : List X) (k i : ℕ) (x : X) → k ≡ length xs + i → slice_get ys i ≡ Some x → slice_get (xs ++ ys) k ≡ Some x
+  pub get_right : (xs ys : List X) (k i : ℕ) (x : X) → k ≡ length xs + i → slice_get ys i ≡ Some x → slice_get (xs ++ ys) k ≡ Some x
   get_right [] ys k i x moved e = subst (λ n. slice_get ys n ≡ Some x) (let same : i ≡ k = omega arith in same) e
   get_right (a ∷ xs) ys zero i x moved e = absurd (omega arith)
   get_right (a ∷ xs) ys (suc k) i x moved e = get_right xs ys k i x (omega arith) e
 
-  get_split : (xs ys : List X) (k : ℕ) (x : X) → slice_get (xs ++ ys) k ≡ Some x → (slice_get xs k ≡ Some x) ⊎ ((i : ℕ) × (k ≡ length xs + i) × (slice_get ys i ≡ Some x))
+  pub get_split : (xs ys : List X) (k : ℕ) (x : X) → slice_get (xs ++ ys) k ≡ Some x → (slice_get xs k ≡ Some x) ⊎ ((i : ℕ) × (k ≡ length xs + i) × (slice_get ys i ≡ Some x))
   get_split [] ys k x e = inr (k, omega arith, e)
   get_split (a ∷ xs) ys zero x e = inl e
   get_split (a ∷ xs) ys (suc k) x e =

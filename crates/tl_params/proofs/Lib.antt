@@ -2,6 +2,6 @@ pub mod OwnedBy
 pub mod Finding
 pub mod Joining
 pub mod Largest
-mod Carrying
+pub mod Carrying
 pub mod OneOwner
 pub mod Transferring

@@ -18,17 +18,13 @@ use Rattle.tl_edge.specs.Plans.{edge_at, outs_of, joined_slaves, no_edge, taken_
 use Rattle.tl_params.specs.Owners.{sets_of}
 use Rattle.tl_edge.specs.SoundPlans.{IsSoundEdge, IsItsSlave, Shows, pieces_of, IsSound}
 use Rattle.tl_params.proofs.OneOwner.{one_owner}
-use Rattle.dip_plan.proofs.LeafLaws.{IsSoundLeaf}
-use Rattle.dip_plan.specs.Outputs.{GoesOn, IsAtSink, OutputLaw}
-use Rattle.dip_plan.proofs.Members.{contains_in}
-use Rattle.dip_plan.proofs.Upward.{slaves_upward, mapped}
-use Rattle.dip_plan.proofs.Ways.{given_by}
-use Rattle.dip_plan.proofs.Whole.{same_sets, joined_sets}
-
-both : (a b : Bool) → (a && b) ≡ true → (a ≡ true) × (b ≡ true)
-both true true h = (refl, refl)
-both true false h = absurd cc
-both false b h = absurd cc
+use Rattle.dip_lists.proofs.Tests.{both}
+use Rattle.tl_params.proofs.Carrying.{same_sets}
+use Rattle.tl_params.proofs.Joining.{get_left, get_right, get_split}
+use Rattle.tl_owners.specs.Outputs.{GoesOn, IsAtSink, OutputLaw}
+use Rattle.tl_owners.proofs.SoundLeaves.{IsSoundLeaf}
+use Rattle.tl_owners.proofs.Members.{contains_in, mapped, given_by}
+use Rattle.tl_owners.proofs.Upward.{slaves_upward}
 
 -- ---- joined lists by their parts
 
@@ -45,28 +41,10 @@ record IsPart (plan : Plan) (outs : List ℕ) (place : ℕ) (slave : Slave) : Ty
   is : slice_get (edge_at plan edge).slaves at ≡ Some slave
   sum : place ≡ before plan outs output + at
 
-in_front : {A : Type 0} (xs ys : List A) (k : ℕ) (x : A) → slice_get (xs ++ ys) k ≡ Some x → (slice_get xs k ≡ Some x) ⊎ ((j : ℕ) × (k ≡ length xs + j) × (slice_get ys j ≡ Some x))
-in_front [] ys k x e = let z : k ≡ 0 + k = omega arith in inr (k, z, e)
-in_front (y ∷ xs) ys zero x e = inl e
-in_front (y ∷ xs) ys (suc k) x e = elim (in_front xs ys k x e) [
-  | inl f ↦ inl f
-  | inr f ↦ let n = f.1 in let z : suc k ≡ suc (length xs) + f.0 = omega arith in inr (f.0, z, f.2)
-]
-
-stays : {A : Type 0} (xs ys : List A) (k : ℕ) (x : A) → slice_get xs k ≡ Some x → slice_get (xs ++ ys) k ≡ Some x
-stays [] ys k x e = absurd cc
-stays (y ∷ xs) ys zero x e = e
-stays (y ∷ xs) ys (suc k) x e = stays xs ys k x e
-
-behind : {A : Type 0} (xs ys : List A) (j k : ℕ) (x : A) → k ≡ length xs + j → slice_get ys j ≡ Some x → slice_get (xs ++ ys) k ≡ Some x
-behind [] ys j k x n e = let z : k ≡ j = omega (arith, n) in subst (λ m. slice_get ys m ≡ Some x) (sym z) e
-behind (y ∷ xs) ys j zero x n e = absurd (omega (arith, n))
-behind (y ∷ xs) ys j (suc k) x n e = behind xs ys j k x (omega (arith, n)) e
-
 part_of : (plan : Plan) (outs : List ℕ) (place : ℕ) (slave : Slave) → slice_get (joined_slaves (map (edge_at plan) outs)) place ≡ Some slave → IsPart plan outs place slave
 unfolding before
 part_of plan [] place slave e = absurd cc
-part_of plan (edge ∷ outs) place slave e = elim (in_front (edge_at plan edge).slaves (joined_slaves (map (edge_at plan) outs)) place slave e) [
+part_of plan (edge ∷ outs) place slave e = elim (get_split (edge_at plan edge).slaves (joined_slaves (map (edge_at plan) outs)) place slave e) [
   | inl f ↦ record { output = 0; edge = edge; out = refl; at = place; is = f; sum = omega arith }
   | inr f ↦
       let r = part_of plan outs f.0 slave f.2 in
@@ -83,10 +61,10 @@ of_part plan (first ∷ outs) zero edge at slave o e =
     let q : first ≡ edge = cc in
     let z : at ≡ 0 + at = omega arith in
     subst (λ m. slice_get ((edge_at plan first).slaves ++ joined_slaves (map (edge_at plan) outs)) m ≡ Some slave) z
-    (stays (edge_at plan first).slaves (joined_slaves (map (edge_at plan) outs)) at slave (subst (λ m. slice_get (edge_at plan m).slaves at ≡ Some slave) (sym q) e))
+    (get_left (edge_at plan first).slaves (joined_slaves (map (edge_at plan) outs)) at slave (subst (λ m. slice_get (edge_at plan m).slaves at ≡ Some slave) (sym q) e))
 of_part plan (first ∷ outs) (suc output) edge at slave o e =
     let z : length (edge_at plan first).slaves + before plan outs output + at ≡ length (edge_at plan first).slaves + (before plan outs output + at) = omega arith in
-    behind (edge_at plan first).slaves (joined_slaves (map (edge_at plan) outs)) (before plan outs output + at) (length (edge_at plan first).slaves + before plan outs output + at) slave z
+    get_right (edge_at plan first).slaves (joined_slaves (map (edge_at plan) outs)) (length (edge_at plan first).slaves + before plan outs output + at) (before plan outs output + at) slave z
     (of_part plan outs output edge at slave o e)
 
 -- two parts at one place are the same
@@ -143,7 +121,7 @@ shown_sets pieces (s ∷ ss) (t ∷ ts) h =
 -- where sets are disjoint an address has one place
 one_place : (slaves : List Slave) → AllPairs Disjoint (sets_of slaves) → (address place other : ℕ) → Owns slaves place address → Owns slaves other address → place ≡ other
 one_place slaves apart address place other p q =
-    one_owner (record { slaves = slaves; beat = 0 }) (subst (λ xs. AllPairs Disjoint xs) (sym (joined_sets slaves)) apart) address place other p q
+    one_owner (record { slaves = slaves; beat = 0 }) apart address place other p q
 
 -- ---- a sound plan
 

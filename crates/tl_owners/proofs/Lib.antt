@@ -1,0 +1,4 @@
+pub mod Members
+pub mod SoundLeaves
+pub mod Upward
+pub mod Outputs
