@@ -23,6 +23,8 @@ use Rattle.dip_graph.specs.Edges.{edges_to, edges_from}
 use Rattle.dip_checks.specs.Checks.{masters_are_wrong, edge_is_misaligned, beats_differ, edges_in, solution_of, design_checks}
 use Rattle.dip_graph.specs.Edges.{edges_at}
 use Rattle.tl_params.specs.Apart.{HasDisjointSets}
+use Rattle.tl_owners.proofs.SoundLeaves.{IsSoundLeaf}
+use Rattle.dip_plan.specs.DesignPlans.{plan_of}
 use Rattle.dip_plan.proofs.PlanLaws.{EachJoins, KindHas, HasItsPorts}
 
 pub record IsJudged (rules : List StatedRule) (design : Design) (edges : List Edge) (solution : Solution) : Type 0 where
@@ -43,3 +45,8 @@ pub record IsJudged (rules : List StatedRule) (design : Design) (edges : List Ed
 abbrev pub JudgedLaw : Type 0
 JudgedLaw = (rules : List StatedRule) (design : Design) → All (HasNodes design.nodes) design.binds → first_failing (design_checks rules design) ≡ None
     → IsJudged rules design (edges_in rules design) (solution_of rules design (edges_in rules design))
+
+-- each leaf of the plan of a design whose checks pass is sound
+abbrev pub LeafLaw : Type 0
+LeafLaw = (rules : List StatedRule) (design : Design) (edges : List Edge) (solution : Solution) → IsJudged rules design edges solution
+    → All (IsSoundLeaf (plan_of rules design edges solution)) (plan_of rules design edges solution).leaves

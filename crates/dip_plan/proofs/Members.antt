@@ -2,17 +2,7 @@
 use Rattle.std.proofs.Common.{◌≡◌, ℕ, zero, suc, ◌+◌, Bool, true, false, cond, List, [], ◌∷◌, Some, refl, sym, ap, ◌∙◌, arith, inl, inr}
 use Rattle.std.specs.Prelude.{slice_get, Contains, AllPairs}
 use Rattle.dip_lists.specs.First.{places}
-use Rattle.dip_negotiate.proofs.Lookups.{In}
-
-pub contains_in : (xs : List ℕ) (x : ℕ) → Contains xs x → In x xs
-contains_in [] x h = let l = h.1 in absurd (omega arith)
-contains_in (y ∷ ys) x (zero, l, e) = inl (sym e)
-contains_in (y ∷ ys) x (suc k, l, e) = inr (contains_in ys x (k, omega arith, e))
-
-pub in_contains : (xs : List ℕ) (x : ℕ) → In x xs → Contains xs x
-in_contains [] x h = absurd h
-in_contains (y ∷ ys) x (inl e) = (zero, omega arith, sym e)
-in_contains (y ∷ ys) x (inr i) = let c = in_contains ys x i in (suc c.0, omega arith, c.2)
+use Rattle.tl_owners.proofs.Members.{In}
 
 -- no list has no pairs
 pub pairs_none : {X : Type 0} (R : X → X → Type 0) → AllPairs R []

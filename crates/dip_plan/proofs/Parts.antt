@@ -10,7 +10,7 @@ use Rattle.dip_graph.specs.declared.design.NodeKind.TheVariants.{Source, Sink, R
 use Rattle.dip_graph.specs.declared.design.NodeEntry.{NodeEntry}
 use Rattle.dip_graph.specs.declared.edges.Edge.{Edge}
 use Rattle.dip_rule.specs.Stated.{StatedRule, template_of}
-use Rattle.dip_negotiate.proofs.Lookups.{In}
+use Rattle.tl_owners.proofs.Members.{In}
 use Rattle.dip_graph.specs.Edges.{edges_to, edges_from}
 use Rattle.dip_plan.specs.DesignPlans.{leaf_of, leaves_between, built_leaves, kind_leaves, leaves_from}
 

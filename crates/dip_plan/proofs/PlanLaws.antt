@@ -14,14 +14,14 @@ use Rattle.dip_rule.specs.Stated.{is_nexus_template}
 use Rattle.dip_stars.specs.declared.rounds.Counted.{Counted}
 use Rattle.dip_stars.specs.Edges.{design_counts, waiting, unfilled, edges_of}
 use Rattle.dip_negotiate.specs.declared.solution.Solution.{Solution}
-use Rattle.tl_edge.specs.Plans.{Reaches, given_edges, taken_edges, times}
+use Rattle.tl_edge.specs.Plans.{NoneReturns, given_edges, taken_edges, times}
 use Rattle.dip_graph.specs.Edges.{edges_to, edges_from}
 use Rattle.dip_plan.specs.DesignPlans.{plan_of}
 
--- no leaf reaches itself, since nodes stand behind those that they are bound to
+-- no way comes back, since nodes stand behind those that they are bound to
 abbrev pub AcyclicLaw : Type 0
 AcyclicLaw = (rules : List StatedRule) (design : Design) (edges : List Edge) (solution : Solution) → IsNegotiable design edges
-    → (leaf : ℕ) → Reaches (plan_of rules design edges solution) leaf leaf → ⊥
+    → NoneReturns (plan_of rules design edges solution)
 
 -- nothing goes to a source or from a sink; what is built for a node is known, and the edges of an adapter are pairs
 abbrev pub KindJoins : List StatedRule → List Edge → ℕ → NodeKind → Type 0

@@ -1,4 +1,4 @@
--- No leaf of a design's plan is on a way to itself: along each edge the canonical order goes on.
+-- No way through a design's plan comes back: along each edge the canonical order goes on.
 use Rattle.std.proofs.Common.{◌≡◌, ℕ, zero, suc, ◌+◌, ◌<◌, ◌≤◌, Bool, true, false, not, cond, ◌&&◌, ◌||◌, List, [], ◌∷◌, ◌++◌, length, Option, Some, None, refl, sym, ap, ◌∙◌, subst, arith, ◌⊎◌, inl, inr}
 use Rattle.std.specs.Prelude.{slice_get, All, Contains, unwrap_or, ◌==◌}
 use Rattle.std.specs.List.{list_all}
@@ -6,9 +6,10 @@ use Rattle.std.proofs.lemmas.Bool.{eqb-true, eq-eqb}
 use Rattle.std.proofs.lemmas.Option.{get_or_from_slice_get, slice_get_within}
 use Rattle.std.proofs.lemmas.List.Elements.{All-weaker}
 use Rattle.dip_lists.specs.First.{first}
+use Rattle.dip_lists.proofs.Tests.{both}
 use Rattle.tl_edge.specs.declared.plan.Leaf.{Leaf}
 use Rattle.tl_edge.specs.declared.plan.Plan.{Plan}
-use Rattle.tl_edge.specs.Plans.{IsJoined, IsWay, Reaches}
+use Rattle.tl_edge.specs.Plans.{IsWay, NoneReturns}
 use Rattle.dip_graph.specs.Orders.{is_listed, is_met, is_ready, canonical_order, StandBehind}
 use Rattle.dip_graph.proofs.Behind.{each_stands_behind}
 use Rattle.dip_graph.specs.declared.design.BindEntry.{BindEntry}
@@ -21,13 +22,9 @@ use Rattle.dip_negotiate.proofs.Ordered.{listed_joined}
 use Rattle.dip_graph.specs.Edges.{edges_to, edges_from}
 use Rattle.dip_plan.specs.DesignPlans.{kind_leaves, plan_of}
 use Rattle.dip_plan.proofs.PlanLaws.{AcyclicLaw}
-use Rattle.dip_plan.proofs.Members.{contains_in, place_is, none_pass}
+use Rattle.tl_owners.proofs.Members.{contains_in, item_has}
+use Rattle.dip_plan.proofs.Members.{place_is, none_pass}
 use Rattle.dip_plan.proofs.Parts.{by_node, IsBetween, of_kind}
-
-both : (a b : Bool) → (a && b) ≡ true → (a ≡ true) × (b ≡ true)
-both true true h = (refl, refl)
-both true false h = absurd cc
-both false b h = absurd cc
 
 either : (a b : Bool) → (a || b) ≡ true → (a ≡ true) ⊎ (b ≡ true)
 either true b h = inl refl
@@ -93,64 +90,20 @@ earlier binds listed (n ∷ ns) k b s e h = elim (yes_or_no (n == b.to)) [
 abbrev pub RisesBy : (ℕ → ℕ) → Leaf → Type 0
 RisesBy level leaf = (above below : ℕ) → Contains leaf.ins above → Contains leaf.outs below → level above < level below
 
-item_has : {A : Type 0} (P : A → Type 0) (xs : List A) (k : ℕ) (x : A) → All P xs → slice_get xs k ≡ Some x → P x
-item_has P xs k x all is = subst P (get_or_from_slice_get xs k x x is) (all k x (slice_get_within xs k x is))
-
-same_item : {A : Type 0} (xs : List A) (k : ℕ) (x y : A) → slice_get xs k ≡ Some x → slice_get xs k ≡ Some y → x ≡ y
-same_item xs k x y is too = ap (λ o. unwrap_or o x) (sym is ∙ too)
-
-record Ends (plan : Plan) (level : ℕ → ℕ) (leaf last : ℕ) : Type 0 where
-  above : Leaf
-  below : Leaf
-  first : ℕ
-  final : ℕ
-  from : slice_get plan.leaves leaf ≡ Some above
-  to : slice_get plan.leaves last ≡ Some below
-  out : Contains above.outs first
-  taken : Contains below.ins final
-  rise : level first ≤ level final
-
 module _ (plan : Plan) (level : ℕ → ℕ) (all : All (RisesBy level) plan.leaves) where
-  further_ends : (leaf next last : ℕ) → IsJoined plan leaf next → Ends plan level next last → Ends plan level leaf last
-  further_ends leaf next last j e =
-      let same : j.below ≡ e.above = same_item plan.leaves next j.below e.above j.to e.from in
-      let enters : Contains e.above.ins j.edge = subst (λ (l : Leaf). Contains l.ins j.edge) same j.taken in
-      let rises : level j.edge < level e.first = item_has (RisesBy level) plan.leaves next e.above all e.from j.edge e.first enters e.out in
-      let more = e.rise in
-      record {
-        above = j.above;
-        below = e.below;
-        first = j.edge;
-        final = e.final;
-        from = j.from;
-        to = e.to;
-        out = j.out;
-        taken = e.taken;
-        rise = omega arith;
-      }
-
-  ends : (leaf : ℕ) (between : List ℕ) (last : ℕ) → IsWay plan leaf between last → Ends plan level leaf last
-  ends leaf [] last j = record {
-    above = j.above;
-    below = j.below;
-    first = j.edge;
-    final = j.edge;
-    from = j.from;
-    to = j.to;
-    out = j.out;
-    taken = j.taken;
-    rise = omega arith;
-  }
-  ends leaf (next ∷ others) last w = further_ends leaf next last w.0 (ends next others last w.1)
-
-  pub no_way_back_by : (leaf : ℕ) → Reaches plan leaf leaf → ⊥
-  no_way_back_by leaf way =
-      let e : Ends plan level leaf leaf = ends leaf way.0 leaf way.1 in
-      let same : e.below ≡ e.above = same_item plan.leaves leaf e.below e.above e.to e.from in
-      let enters : Contains e.above.ins e.final = subst (λ (l : Leaf). Contains l.ins e.final) same e.taken in
-      let rises : level e.final < level e.first = item_has (RisesBy level) plan.leaves leaf e.above all e.from e.final e.first enters e.out in
-      let more = e.rise in
+  -- each edge on a way is at a greater level than the one from which it starts
+  rising : (edge : ℕ) (others : List ℕ) → IsWay plan edge others → (later : ℕ) → Contains others later → level edge < level later
+  rising edge [] way later (k, below, is) = absurd (omega arith)
+  rising edge (next ∷ others) way later (zero, below, is) =
+      let step : level edge < level next = item_has (RisesBy level) plan.leaves way.0.leaf way.0.through all way.0.is edge next way.0.taken way.0.given in
+      subst (λ (e : ℕ). level edge < level e) is step
+  rising edge (next ∷ others) way later (suc k, below, is) =
+      let step : level edge < level next = item_has (RisesBy level) plan.leaves way.0.leaf way.0.through all way.0.is edge next way.0.taken way.0.given in
+      let rest : level next < level later = rising next others way.1 later (k, omega arith, is) in
       omega arith
+
+  pub no_way_back_by : NoneReturns plan
+  no_way_back_by edge others way back = let less : level edge < level edge = rising edge others way edge back in omega arith
 
 -- ---- of a design
 

@@ -1,6 +1,6 @@
 -- The plan of a design stands to it as it should: its edges and its ports.
 use Rattle.std.proofs.Common.{◌≡◌, ℕ, zero, suc, ◌+◌, ◌<◌, List, [], ◌∷◌, length, Some, refl, sym, ap, ◌∙◌, subst, arith, inl, inr}
-use Rattle.std.specs.Prelude.{slice_get, All, AllPairs, Contains}
+use Rattle.std.specs.Prelude.{slice_get, get_or, All, AllPairs, Contains}
 use Rattle.std.proofs.lemmas.Option.{slice_get-get_or, get_or_from_slice_get}
 use Rattle.std.proofs.lemmas.List.Elements.{All-weaker, Contains-append_left, Contains-append_right}
 use Rattle.tl_params.specs.declared.ports.DownPort.{DownPort}
@@ -68,11 +68,11 @@ among_nodes ports edges first (x ∷ nodes) (suc place) entry at e h =
     (among_nodes ports edges (first + 1) nodes place entry at e (subst (λ (n : ℕ). Contains (ports entry.name n entry.kind edges) at) later h))
 
 at_numbers : (ports : List PlanPort) → AllPairs IsBefore ports → AllPairs (λ (a b : PlanPort). a.node ≡ b.node → a.port ≡ b.port → ⊥) ports
-at_numbers ports rise i j d before within = apart (rise i j d before within)
+at_numbers ports rise i j d before within = apart (get_or ports i d) (get_or ports j d) (rise i j d before within)
   where
-    apart : {a b : PlanPort} → IsBefore a b → a.node ≡ b.node → a.port ≡ b.port → ⊥
-    apart (inl l) e p = absurd (omega arith)
-    apart (inr l) e p = let q = l.1 in absurd (omega arith)
+    apart : (a b : PlanPort) → IsBefore a b → a.node ≡ b.node → a.port ≡ b.port → ⊥
+    apart a b (inl l) e p = absurd (omega arith)
+    apart a b (inr l) e p = let q = l.1 in absurd (omega arith)
 
 module _ (rules : List StatedRule) (design : Design) (edges : List Edge) (solution : Solution) (w : IsWellStated design) (j : IsJudged rules design edges solution) (sizes : All HasSizes solution.up) where
   abbrev plan : Plan
@@ -104,10 +104,12 @@ module _ (rules : List StatedRule) (design : Design) (edges : List Edge) (soluti
           let k = slice_get-get_or (edges_from n edges) p 0 (omega arith) in
           let from : n ≡ 0 + n = omega arith in
           let first : 0 + p ≡ p = omega arith in
-          let own = on_node h.entry.name (0 + n) 0 (edges_from n edges) p _ k in
-          (_, among_nodes source_ports edges 0 design.nodes n h.entry _ h.is
-          (subst (λ (kind : NodeKind). Contains (source_ports h.entry.name (0 + n) kind edges) _) (sym e)
-          (subst (λ (m : ℕ). Contains (ports_on h.entry.name (0 + n) 0 (edges_from m edges)) _) from own)), sym from, first)
+          let edge : ℕ = get_or (edges_from n edges) p 0 in
+          let own : PlanPort = port_on h.entry.name (0 + n) (0 + p) edge in
+          let listed = on_node h.entry.name (0 + n) 0 (edges_from n edges) p edge k in
+          (own, among_nodes source_ports edges 0 design.nodes n h.entry own h.is
+          (subst (λ (kind : NodeKind). Contains (source_ports h.entry.name (0 + n) kind edges) own) (sym e)
+          (subst (λ (m : ℕ). Contains (ports_on h.entry.name (0 + n) 0 (edges_from m edges)) own) from listed)), sym from, first)
 
   sources : ArePorts source_count (λ edge. edge.from) (λ edge. edge.from_port) design.nodes edges plan.sources
   sources = record {
@@ -142,10 +144,12 @@ module _ (rules : List StatedRule) (design : Design) (edges : List Edge) (soluti
           let k = slice_get-get_or (edges_to n edges) p 0 (omega arith) in
           let from : n ≡ 0 + n = omega arith in
           let first : 0 + p ≡ p = omega arith in
-          let own = on_node h.entry.name (0 + n) 0 (edges_to n edges) p _ k in
-          (_, among_nodes sink_ports edges 0 design.nodes n h.entry _ h.is
-          (subst (λ (kind : NodeKind). Contains (sink_ports h.entry.name (0 + n) kind edges) _) (sym e)
-          (subst (λ (m : ℕ). Contains (ports_on h.entry.name (0 + n) 0 (edges_to m edges)) _) from own)), sym from, first)
+          let edge : ℕ = get_or (edges_to n edges) p 0 in
+          let own : PlanPort = port_on h.entry.name (0 + n) (0 + p) edge in
+          let listed = on_node h.entry.name (0 + n) 0 (edges_to n edges) p edge k in
+          (own, among_nodes sink_ports edges 0 design.nodes n h.entry own h.is
+          (subst (λ (kind : NodeKind). Contains (sink_ports h.entry.name (0 + n) kind edges) own) (sym e)
+          (subst (λ (m : ℕ). Contains (ports_on h.entry.name (0 + n) 0 (edges_to m edges)) own) from listed)), sym from, first)
 
   sinks : ArePorts sink_count (λ edge. edge.to) (λ edge. edge.to_port) design.nodes edges plan.sinks
   sinks = record {
@@ -158,9 +162,9 @@ module _ (rules : List StatedRule) (design : Design) (edges : List Edge) (soluti
   stands = record {
     name = refl;
     policy = refl;
-    down = j.down.long;
-    up = j.up.long;
-    edges = long rules design edges solution w j sizes;
+    downs = j.down.long;
+    ups = j.up.long;
+    long = long rules design edges solution w j sizes;
     edge = λ number edge down up. edge_of number solution.down solution.up edge down up;
     sources = sources;
     sinks = sinks;

@@ -25,9 +25,10 @@ use Rattle.tl_edge.specs.declared.plan.Leaf.{Leaf}
 use Rattle.tl_edge.specs.declared.plan.PlanEdge.{PlanEdge}
 use Rattle.tl_edge.specs.declared.plan.PlanPort.{PlanPort}
 use Rattle.tl_edge.specs.declared.plan.Plan.{Plan}
-use Rattle.tl_edge.specs.Plans.{edge_at, no_edge, beat_of, port_edges, given_edges, taken_edges, times, Reaches}
+use Rattle.tl_edge.specs.Plans.{edge_at, no_edge, width_of, port_edges, given_edges, taken_edges, times, NoneReturns}
 use Rattle.tl_params.specs.Owners.{sets_of}
-use Rattle.tl_edge.specs.SoundPlans.{IsAligned, IsSmall, HasRanges, IsSoundEdge, IsItsSlave, AreApart, IsShort, HasShape, Carries, MovesIds, IsSound}
+use Rattle.tl_params.specs.Aligned.{IsAligned}
+use Rattle.tl_edge.specs.SoundPlans.{IsSmall, HasRanges, IsSoundEdge, IsItsSlave, AreApart, IsShort, HasShape, Carries, MovesIds, IsSound}
 use Rattle.tl_edge.specs.Plans.{ins_of, outs_of}
 use Rattle.tl_rules.specs.Fits.{port_down, port_up}
 use Rattle.dip_graph.specs.Kinds.{kind_at}
@@ -43,7 +44,7 @@ use Rattle.dip_negotiate.specs.Places.{asked, source_end, sink_end}
 use Rattle.dip_graph.specs.Edges.{HasNodes}
 use Rattle.dip_negotiate.specs.Negotiation.{addresses_at, sink_port}
 use Rattle.dip_negotiate.specs.Negotiation.{up_at as stated_up}
-use Rattle.dip_negotiate.proofs.Lookups.{In}
+use Rattle.tl_owners.proofs.Members.{In}
 use Rattle.dip_graph.specs.Edges.{edges_to, edges_from}
 use Rattle.dip_checks.specs.Checks.{has_wrong_ids, share_ids, masters_are_wrong, slave_is_misaligned, edge_is_misaligned, edges_in, solution_of, design_checks, accepted_of}
 use Rattle.tl_params.specs.Owners.{sets_of as all_sets}
@@ -52,7 +53,7 @@ use Rattle.dip_plan.specs.DesignPlans.{kind_leaves, source_ports, sink_ports, pl
 use Rattle.dip_plan.proofs.PlanLaws.{KindHas}
 use Rattle.dip_graph.specs.WellStated.{IsShortName, IsStatedPort, IsStatedKind, IsStatedNode, IsWellStated}
 use Rattle.dip_plan.proofs.Judged.{IsJudged}
-use Rattle.dip_plan.proofs.LeafLaws.{IsSoundLeaf}
+use Rattle.tl_owners.proofs.SoundLeaves.{IsSoundLeaf}
 use Rattle.dip_plan.specs.SoundLaw.{HasSizes, SoundPlanLaw}
 use Rattle.dip_plan.proofs.Members.{place_is}
 use Rattle.dip_plan.proofs.Parts as parts
@@ -61,7 +62,8 @@ use Rattle.dip_plan.proofs.Once.{once}
 use Rattle.dip_plan.proofs.Sums.{hits, placed_length}
 use Rattle.dip_plan.proofs.Passed.{judged}
 use Rattle.dip_plan.proofs.Leaves.{at_number, leaf_law}
-use Rattle.dip_plan.proofs.Upward.{all_in, item_has, slaves_upward, widths_upward}
+use Rattle.tl_owners.proofs.Members.{all_in, item_has}
+use Rattle.tl_owners.proofs.Upward.{slaves_upward, widths_upward}
 use Rattle.dip_plan.proofs.Ports.{at_place, by_node, by_place, IsBefore, pairs_joined, in_order, sources_keep, sinks_keep}
 
 both : (a b : Bool) → (a && b) ≡ true → (a ≡ true) × (b ≡ true)
@@ -372,7 +374,7 @@ module _ (rules : List StatedRule) (design : Design) (edges : List Edge) (soluti
   leaves : All (IsSoundLeaf plan) plan.leaves
   leaves = leaf_law rules design edges solution j
 
-  no_return : (leaf : ℕ) → Reaches plan leaf leaf → ⊥
+  no_return : NoneReturns plan
   no_return = acyclic rules design edges solution j.negotiable
 
   -- ---- the edges of sinks
@@ -405,8 +407,8 @@ module _ (rules : List StatedRule) (design : Design) (edges : List Edge) (soluti
       (All-cons IsFounded (record { node = port.node; port = port.port; addresses = addresses_at s.ports port.port; supports = s.supports }) []
       (record { some = sets.0.0; sets = sets.1; arithmetic = st.3.0; logical = st.3.1 }) (All-nil IsFounded))
 
-  sink_width : (port : PlanPort) → IsSinkPort port → IsTrue (is_width (beat_of (edge_at plan port.edge)))
-  sink_width port s = subst (λ (edge : PlanEdge). IsTrue (is_width (beat_of edge))) (sym (sink_edge port s)) (stated_sink port s).0
+  sink_width : (port : PlanPort) → IsSinkPort port → IsTrue (is_width (width_of (edge_at plan port.edge)))
+  sink_width port s = subst (λ (edge : PlanEdge). IsTrue (is_width (width_of edge))) (sym (sink_edge port s)) (stated_sink port s).0
 
   answered : (port : PlanPort) → IsSinkPort port → IsItsSlave (edge_at plan port.edge).slaves port
   answered port s = record {
@@ -427,15 +429,15 @@ module _ (rules : List StatedRule) (design : Design) (edges : List Edge) (soluti
       let ids = has_ids down (at_default (λ (d : DownPort). masters_are_wrong d.masters ≡ false) solution.down (record { masters = [] }) x j.masters (within_down x m)) in
       let founded : All IsFounded up.slaves = subst (λ (edge : PlanEdge). All IsFounded edge.slaves) e
       (slaves_upward plan no_return given taken_once leaves IsFounded stays_founded (All-weaker IsSinkPort (λ (port : PlanPort). All IsFounded (edge_at plan port.edge).slaves) sink_slaves plan.sinks all_sinks) x l) in
-      let wide : IsTrue (is_width up.beat) = subst (λ (edge : PlanEdge). IsTrue (is_width (beat_of edge))) e
-      (widths_upward plan no_return given taken_once leaves (All-weaker IsSinkPort (λ (port : PlanPort). IsTrue (is_width (beat_of (edge_at plan port.edge)))) sink_width plan.sinks all_sinks) x l) in
+      let wide : IsTrue (is_width up.beat) = subst (λ (edge : PlanEdge). IsTrue (is_width (width_of edge))) e
+      (widths_upward plan no_return given taken_once leaves (All-weaker IsSinkPort (λ (port : PlanPort). IsTrue (is_width (width_of (edge_at plan port.edge)))) sink_width plan.sinks all_sinks) x l) in
       let ranges : All HasRanges up.slaves = at_default HasSizes solution.up (record { slaves = []; beat = 0 }) x sizes (within_up x m) in
       let disjoint : AllPairs Disjoint (all_sets up.slaves) = at_default HasDisjointSets solution.up (record { slaves = []; beat = 0 }) x j.apart (within_up x m) in
       let aligned : edge_is_misaligned up ≡ false = at_default (λ (u : UpPort). edge_is_misaligned u ≡ false) solution.up (record { slaves = []; beat = 0 }) x j.aligned (within_up x m) in
       subst IsSoundEdge (sym e) (record {
         some_ids = ids.some;
         few_ids = ids.few;
-        beat = wide;
+        width = wide;
         bundle = refl;
         addressed = All-weaker IsFounded (λ (slave : Slave). 1 ≤ length slave.addresses) (λ s f. f.some) up.slaves founded;
         sets = All-weaker IsFounded (λ (slave : Slave). All IsSet slave.addresses) (λ s f. f.sets) up.slaves founded;

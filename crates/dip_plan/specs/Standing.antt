@@ -60,9 +60,9 @@ pub record IsEdgeOf (edge : PlanEdge) (down : DownPort) (up : UpPort) : Type 0 w
 pub record StandsTo (design : Design) (edges : List Edge) (solution : Solution) (plan : Plan) : Type 0 where
   pub name : plan.name ≡ design.name
   pub policy : plan.policy ≡ design.policy
-  pub down : length solution.down ≡ length edges
-  pub up : length solution.up ≡ length edges
-  pub edges : length plan.edges ≡ length edges
+  pub downs : length solution.down ≡ length edges
+  pub ups : length solution.up ≡ length edges
+  pub long : length plan.edges ≡ length edges
   pub edge : (number : ℕ) (edge : PlanEdge) (down : DownPort) (up : UpPort)
       → slice_get plan.edges number ≡ Some edge → slice_get solution.down number ≡ Some down
       → slice_get solution.up number ≡ Some up → IsEdgeOf edge down up
