@@ -1,4 +1,4 @@
--- An accepted design has the only solution.
+-- A design whose checks pass agrees on the only solution.
 use Rattle.std.proofs.Common.{◌≡◌, List, None, Ok, sym, subst}
 use Rattle.std.specs.Prelude.{All}
 use Rattle.dip_lists.specs.First.{first}

@@ -28,7 +28,7 @@ use Rattle.dip_negotiate.specs.declared.solution.Solution.{Solution}
 use Rattle.dip_negotiate.specs.Negotiation.{downs, ups}
 use Rattle.dip_stars.specs.Edges.{design_counts, waiting, unfilled, excess, edges_of}
 use Rattle.tl_rules.specs.Fits.{fits, port_up}
-use Rattle.dip_checks.specs.declared.accepted.Accepted.{Accepted}
+use Rattle.dip_checks.specs.declared.agreed.Agreed.{Agreed}
 use Rattle.dip_checks.specs.Weights.{weight}
 
 -- ---- check 5: a node whose kind has no rule
@@ -232,7 +232,7 @@ port_checks rules design edges =
 unfoldable pub design_checks : List StatedRule → Design → List Check
 design_checks rules design = graph_checks rules design ++ port_checks rules design (edges_in rules design)
 
--- what a design has where its checks pass
-abbrev pub accepted_of : List StatedRule → Design → Accepted
-accepted_of rules design =
+-- what a design agrees on where its checks pass
+abbrev pub agreed_of : List StatedRule → Design → Agreed
+agreed_of rules design =
     record { edges = edges_in rules design; solution = solution_of rules design (edges_in rules design) }

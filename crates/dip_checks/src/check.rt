@@ -6,7 +6,7 @@ ghost use Rattle.dip_negotiate.specs.Negotiation.{IsOnlySolution, downs, ups};
 ghost use Rattle.tl_params.specs.Apart.{HasDisjointSets, HasOneOwnerEach};
 ghost use Rattle.dip_checks.specs.Checks as spec;
 
-use crate::Accepted;
+use crate::Agreed;
 use crate::edges::edges_are_sound;
 use crate::fit::network_fits;
 use crate::graph::graph;
@@ -67,23 +67,23 @@ fn solved(alloc: Global, rules: &Rules, design: &Design, edges: &[Edge]) -> Resu
 /// or the edge at which it does, or how many edges there are, or the weight. After `Fault::Memory` nothing
 /// is known.
 #[tactic(auto, using(crate::proofs::Solved::only_solution), unfolding(crate::specs::Checks::design_checks))]
-pub fn check_design(alloc: Global, design: &Design, rules: &Rules) -> Result<Accepted, Fault>
+pub fn check_design(alloc: Global, design: &Design, rules: &Rules) -> Result<Agreed, Fault>
     requires nodes { length design.now.nodes ≤ 256 }
     requires binds { length design.now.binds ≤ 1024 }
     requires named { All (HasNodes design.now.nodes) design.now.binds }
-    ensures value { IfOk result (λ accepted. accepted ≡ spec.accepted_of (⟦<Rules as Stating>⟧.stated
+    ensures value { IfOk result (λ agreed. agreed ≡ spec.agreed_of (⟦<Rules as Stating>⟧.stated
         rules.now) design.now) }
-    ensures only { IfOk result (λ accepted. IsOnlySolution (⟦<Rules as Stating>⟧.stated rules.now)
-        design.now accepted.edges
-        accepted.solution) }
+    ensures only { IfOk result (λ agreed. IsOnlySolution (⟦<Rules as Stating>⟧.stated rules.now)
+        design.now agreed.edges
+        agreed.solution) }
     ensures passes { IfOk result (λ _. first_failing (spec.design_checks (⟦<Rules as Stating>⟧.stated
         rules.now) design.now) ≡ None) }
     ensures err { IfErr result (IsFaultOf (first_failing (spec.design_checks
         (⟦<Rules as Stating>⟧.stated rules.now) design.now))) }
-    ensures apart { IfOk result (λ accepted. All HasDisjointSets accepted.solution.up) }
-    ensures owners { IfOk result (λ accepted. All HasOneOwnerEach accepted.solution.up) }
+    ensures apart { IfOk result (λ agreed. All HasDisjointSets agreed.solution.up) }
+    ensures owners { IfOk result (λ agreed. All HasOneOwnerEach agreed.solution.up) }
 {
     let edges = graph(alloc, design, rules)?;
     let solution = solved(alloc, rules, design, edges.as_slice())?;
-    Ok(Accepted { edges, solution })
+    Ok(Agreed { edges, solution })
 }

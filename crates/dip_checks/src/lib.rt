@@ -1,8 +1,8 @@
-//! The checks of designs after those of their files, and what an accepted design has: its edges and the only
-//! parameters of their ports.
+//! The checks of designs after those of their files, and what a design agrees on whose checks pass: its edges and
+//! the only parameters of their ports.
 #![tactic(auto)]
 
-mod accepted;
+mod agreed;
 mod check;
 mod edges;
 mod fit;
@@ -12,7 +12,7 @@ mod rules;
 mod sets;
 mod weights;
 
-pub use accepted::Accepted;
+pub use agreed::Agreed;
 pub use check::check_design;
 pub use laws::{check_order_law, ports_law};
 pub use weights::weight;

@@ -1,7 +1,7 @@
 -- The plan of a design stands to it as it should: its edges and its ports.
-use Rattle.std.proofs.Common.{◌≡◌, ℕ, zero, suc, ◌+◌, ◌<◌, List, [], ◌∷◌, length, Some, refl, sym, ap, ◌∙◌, subst, arith, inl, inr}
-use Rattle.std.specs.Prelude.{slice_get, get_or, All, AllPairs, Contains}
-use Rattle.std.proofs.lemmas.Option.{slice_get-get_or, get_or_from_slice_get}
+use Rattle.std.proofs.Common.{◌≡◌, ℕ, zero, suc, ◌+◌, ◌<◌, List, [], ◌∷◌, length, Some, None, refl, sym, ap, ◌∙◌, subst, arith, inl, inr}
+use Rattle.std.specs.Prelude.{slice_get, get_or, unwrap_or, All, AllPairs, Contains}
+use Rattle.std.proofs.lemmas.Option.{slice_get-get_or, slice_get_within}
 use Rattle.std.proofs.lemmas.List.Elements.{All-weaker, Contains-append_left, Contains-append_right}
 use Rattle.tl_params.specs.declared.ports.DownPort.{DownPort}
 use Rattle.tl_params.specs.declared.ports.UpPort.{UpPort}
@@ -21,6 +21,14 @@ use Rattle.dip_negotiate.specs.declared.solution.Solution.{Solution}
 use Rattle.dip_plan.specs.DesignPlans.{ports_on, source_ports, sink_ports, ports_from, plan_edge, plan_edges, plan_of}
 use Rattle.dip_plan.specs.SoundLaw.{HasSizes}
 use Rattle.dip_plan.specs.Standing.{source_count, sink_count, HasPort, IsPortAt, ArePorts, IsEdgeOf, StandsTo}
+use Rattle.dip_lists.specs.First.{first_failing}
+use Rattle.tl_edge.specs.Legal.{IsLegal, IsLegalOn, IsLegalAt}
+use Rattle.tl_edge.specs.Plans.{no_edge}
+use Rattle.tl_edge.proofs.Legality.{legal_law}
+use Rattle.dip_checks.specs.declared.agreed.Agreed.{Agreed}
+use Rattle.dip_checks.specs.Checks.{edges_in, solution_of, design_checks, agreed_of}
+use Rattle.dip_plan.specs.SoundLaw.{LegalOverPlanLaw}
+use Rattle.dip_plan.proofs.Passed.{judged}
 use Rattle.dip_plan.proofs.Judged.{IsJudged}
 use Rattle.dip_plan.proofs.PlanLaws.{KindHas}
 use Rattle.dip_plan.proofs.Ports.{PortsOf, IsBefore, port_on, in_order, sources_keep, sinks_keep}
@@ -169,3 +177,23 @@ module _ (rules : List StatedRule) (design : Design) (edges : List Edge) (soluti
     sources = sources;
     sinks = sinks;
   }
+
+-- as a call needs it
+pub planned_stands : (rules : List StatedRule) (design : Design) (agreed : Agreed) → IsWellStated design → first_failing (design_checks rules design) ≡ None → agreed ≡ agreed_of rules design
+    → All HasSizes agreed.solution.up → StandsTo design agreed.edges agreed.solution (plan_of rules design agreed.edges agreed.solution)
+planned_stands rules design agreed w h e sizes =
+    let s : All HasSizes (solution_of rules design (edges_in rules design)).up = subst (λ (a : Agreed). All HasSizes a.solution.up) e sizes in
+    subst (λ (a : Agreed). StandsTo design a.edges a.solution (plan_of rules design a.edges a.solution)) (sym e)
+    (stands rules design (edges_in rules design) (solution_of rules design (edges_in rules design)) w (judged rules design w.bound h) s)
+
+-- ---- legal requests
+
+pub legal_over_plan : LegalOverPlanLaw
+legal_over_plan design edges solution plan s port at down up request is d u legal =
+    let l : at.edge < length plan.edges = omega (arith, s.long, s.downs, slice_get_within solution.down at.edge down d) in
+    let here : slice_get plan.edges at.edge ≡ Some (get_or plan.edges at.edge no_edge) = slice_get-get_or plan.edges at.edge no_edge l in
+    let edge : PlanEdge = get_or plan.edges at.edge no_edge in
+    let same : edge_at plan at.edge ≡ edge = ap (λ o. unwrap_or o no_edge) here in
+    let of : IsEdgeOf edge down up = s.edge at.edge edge down up here d u in
+    let on : IsLegalOn edge request = legal_law.by_masters down.masters edge request of.ids (subst (λ slaves. IsLegal down.masters slaves request) (sym of.slaves) legal) in
+    record { at = at; is = is; legal = subst (λ (e : PlanEdge). IsLegalOn e request) (sym same) on }

@@ -8,7 +8,7 @@ use Rattle.std.proofs.lemmas.Bool.Decides.{nat_tests}
 use Rattle.std.proofs.lemmas.Option.{get_or_from_slice_get, slice_get_within}
 use Rattle.std.proofs.lemmas.List.Elements.{All-nil, All-cons, All-head, All-tail, All-append, All-weaker}
 use Rattle.dip_lists.specs.First.{places, first_failing}
-use Rattle.dip_checks.specs.declared.accepted.Accepted.{Accepted}
+use Rattle.dip_checks.specs.declared.agreed.Agreed.{Agreed}
 use Rattle.dip_sets.specs.Sets.{Pattern, IsSet, Disjoint, alignment}
 use Rattle.dip_sets.specs.SizeRanges.{SizeRange, is_size_range, is_size_pair, is_within}
 use Rattle.tl_params.specs.declared.ops.Op.TheVariants.{PutFull, PutPartial, Arithmetic, Logical, Get, Intent}
@@ -46,7 +46,7 @@ use Rattle.dip_negotiate.specs.Negotiation.{addresses_at, sink_port}
 use Rattle.dip_negotiate.specs.Negotiation.{up_at as stated_up}
 use Rattle.tl_owners.proofs.Members.{In}
 use Rattle.dip_graph.specs.Edges.{edges_to, edges_from}
-use Rattle.dip_checks.specs.Checks.{has_wrong_ids, share_ids, masters_are_wrong, slave_is_misaligned, edge_is_misaligned, edges_in, solution_of, design_checks, accepted_of}
+use Rattle.dip_checks.specs.Checks.{has_wrong_ids, share_ids, masters_are_wrong, slave_is_misaligned, edge_is_misaligned, edges_in, solution_of, design_checks, agreed_of}
 use Rattle.tl_params.specs.Owners.{sets_of as all_sets}
 use Rattle.tl_params.specs.Apart.{HasDisjointSets}
 use Rattle.dip_plan.specs.DesignPlans.{kind_leaves, source_ports, sink_ports, plan_edge, plan_edges, plan_of}
@@ -523,18 +523,18 @@ module _ (rules : List StatedRule) (design : Design) (edges : List Edge) (soluti
 pub sound_plan : SoundPlanLaw
 sound_plan rules design w h sizes = sound rules design (edges_in rules design) (solution_of rules design (edges_in rules design)) w (judged rules design w.bound h) sizes
 
--- as a call needs it: the plan of the accepted value, and that its edges join nodes
-pub planned_sound : (rules : List StatedRule) (design : Design) (accepted : Accepted) → IsWellStated design → first_failing (design_checks rules design) ≡ None → accepted ≡ accepted_of rules design
-    → All HasSizes accepted.solution.up → IsSound (plan_of rules design accepted.edges accepted.solution)
-planned_sound rules design accepted w h e sizes =
-    let s : All HasSizes (solution_of rules design (edges_in rules design)).up = subst (λ (a : Accepted). All HasSizes a.solution.up) e sizes in
-    subst (λ (a : Accepted). IsSound (plan_of rules design a.edges a.solution)) (sym e) (sound_plan rules design w h s)
+-- as a call needs it: the plan of the agreed value, and that its edges join nodes
+pub planned_sound : (rules : List StatedRule) (design : Design) (agreed : Agreed) → IsWellStated design → first_failing (design_checks rules design) ≡ None → agreed ≡ agreed_of rules design
+    → All HasSizes agreed.solution.up → IsSound (plan_of rules design agreed.edges agreed.solution)
+planned_sound rules design agreed w h e sizes =
+    let s : All HasSizes (solution_of rules design (edges_in rules design)).up = subst (λ (a : Agreed). All HasSizes a.solution.up) e sizes in
+    subst (λ (a : Agreed). IsSound (plan_of rules design a.edges a.solution)) (sym e) (sound_plan rules design w h s)
 
-pub ends_exist : (rules : List StatedRule) (design : Design) (accepted : Accepted) → All (HasNodes design.nodes) design.binds → first_failing (design_checks rules design) ≡ None → accepted ≡ accepted_of rules design
-    → All (λ (edge : Edge). edge.to < length design.nodes) accepted.edges × All (λ (edge : Edge). edge.from < length design.nodes) accepted.edges
-ends_exist rules design accepted w h e =
+pub ends_exist : (rules : List StatedRule) (design : Design) (agreed : Agreed) → All (HasNodes design.nodes) design.binds → first_failing (design_checks rules design) ≡ None → agreed ≡ agreed_of rules design
+    → All (λ (edge : Edge). edge.to < length design.nodes) agreed.edges × All (λ (edge : Edge). edge.from < length design.nodes) agreed.edges
+ends_exist rules design agreed w h e =
     let j = judged rules design w h in
-    let same : accepted.edges ≡ edges_in rules design = ap (λ (a : Accepted). a.edges) e in (
+    let same : agreed.edges ≡ edges_in rules design = ap (λ (a : Agreed). a.edges) e in (
       subst (λ (es : List Edge). All (λ (edge : Edge). edge.to < length design.nodes) es) (sym same) (ends (λ (edge : Edge). edge.to < length design.nodes) (edges_in rules design) (λ x edge is. (nodes_exist design (edges_in rules design) j.negotiable x edge is).0)),
       subst (λ (es : List Edge). All (λ (edge : Edge). edge.from < length design.nodes) es) (sym same) (ends (λ (edge : Edge). edge.from < length design.nodes) (edges_in rules design) (λ x edge is. (nodes_exist design (edges_in rules design) j.negotiable x edge is).1)),
     )
@@ -543,6 +543,6 @@ ends_exist rules design accepted w h e =
     ends P [] f = All-nil P
     ends P (y ∷ es) f = All-cons P y es (f 0 y refl) (ends P es (λ x edge is. f (suc x) edge is))
 
-pub few_edges : (rules : List StatedRule) (design : Design) (accepted : Accepted) → All (HasNodes design.nodes) design.binds → first_failing (design_checks rules design) ≡ None → accepted ≡ accepted_of rules design
-    → length accepted.edges ≤ 1024
-few_edges rules design accepted w h e = subst (λ (a : Accepted). length a.edges ≤ 1024) (sym e) (judged rules design w h).few
+pub few_edges : (rules : List StatedRule) (design : Design) (agreed : Agreed) → All (HasNodes design.nodes) design.binds → first_failing (design_checks rules design) ≡ None → agreed ≡ agreed_of rules design
+    → length agreed.edges ≤ 1024
+few_edges rules design agreed w h e = subst (λ (a : Agreed). length a.edges ≤ 1024) (sym e) (judged rules design w h).few

@@ -17,6 +17,8 @@ use Rattle.dip_graph.specs.declared.design.Design.{Design}
 use Rattle.dip_graph.specs.declared.edges.Edge.{Edge}
 use Rattle.dip_rule.specs.Stated.{StatedRule, template_of}
 use Rattle.dip_negotiate.specs.declared.solution.Solution.{Solution}
+use Rattle.dip_checks.specs.Checks.{edges_in, solution_of}
+use Rattle.dip_plan.specs.declared.accepted.Accepted.{Accepted}
 use Rattle.dip_graph.specs.Edges.{edges_to, edges_from}
 
 -- ---- leaves: one for each port of an adapter, between its in edge and its out edge, and one for a nexus
@@ -107,4 +109,13 @@ plan_of rules design edges solution =
       edges = plan_edges solution.down solution.up;
       sources = ports_from source_ports edges 0 design.nodes;
       sinks = ports_from sink_ports edges 0 design.nodes;
+    }
+
+-- what an accepted design has: its edges, its only solution and its plan
+abbrev pub accepted_of : List StatedRule → Design → Accepted
+accepted_of rules design =
+    record {
+      edges = edges_in rules design;
+      solution = solution_of rules design (edges_in rules design);
+      plan = plan_of rules design (edges_in rules design) (solution_of rules design (edges_in rules design));
     }

@@ -1,10 +1,13 @@
-ghost use Rattle.std.specs.Prelude.{◌≡◌, ◌≤◌, None, length, map, IfOk, IfErr};
+ghost use Rattle.std.specs.Prelude.{◌≡◌, All, None, IfOk, IfErr};
 ghost use Rattle.dip_lists.specs.First.{first_failing};
+ghost use Rattle.tl_params.specs.Apart.{HasDisjointSets, HasOneOwnerEach};
 ghost use Rattle.tl_edge.specs.SoundPlans.{IsSound};
 ghost use Rattle.dip_graph.specs.Faults.{IsFaultOf};
-ghost use Rattle.dip_checks.specs.Checks.{accepted_of, design_checks};
-ghost use Rattle.dip_plan.specs.DesignPlans as spec;
 ghost use Rattle.dip_graph.specs.WellStated.{IsWellStated};
+ghost use Rattle.dip_negotiate.specs.Negotiation.{IsOnlySolution};
+ghost use Rattle.dip_checks.specs.Checks.{design_checks};
+ghost use Rattle.dip_plan.specs.Standing.{StandsTo};
+ghost use Rattle.dip_plan.specs.DesignPlans as spec;
 
 use crate::assemble::plan_of;
 use crate::sizes::edges_have_sizes;
@@ -17,28 +20,40 @@ use tl_edge::Plan;
 
 /// What an accepted design has: its edges, what goes down and up each of them, and its plan.
 #[derive(Drop)]
-pub struct Planned {
+pub struct Accepted {
     pub edges: Edges,
     pub solution: Solution,
     pub plan: Plan,
 }
 
-/// The edges, the only solution and the plan of a design.
-#[tactic(auto, using(crate::proofs::Whole::planned_sound))]
-pub fn check(alloc: Global, design: &Design, rules: &Rules) -> Result<Planned, Fault>
-    requires stated { IsWellStated design.now }
-    ensures edges { IfOk result (λ planned. planned.edges ≡ (accepted_of (⟦<Rules as Stating>⟧.stated rules.now) design.now).edges) }
-    ensures plan { IfOk result (λ planned. planned.plan ≡ spec.plan_of (⟦<Rules as Stating>⟧.stated rules.now) design.now planned.edges
-        planned.solution) }
-    ensures sound { IfOk result (λ planned. IsSound planned.plan) }
-    ensures err { IfErr result (IsFaultOf (first_failing (design_checks (⟦<Rules as Stating>⟧.stated rules.now) design.now))) }
+/// The edges, the only solution and the plan of a design, by these rules. The plan is sound.
+///
+/// `Fault::Check` names the first of the checks 5 to 18 that fails, with the number of the bind, the node
+/// or the edge at which it does, or how many edges there are, or the weight. After `Fault::Memory` nothing
+/// is known.
+#[tactic(auto, using(crate::proofs::Whole::planned_sound, crate::proofs::Stands::planned_stands))]
+pub fn check(alloc: Global, design: &Design, rules: &Rules) -> Result<Accepted, Fault>
+    requires { IsWellStated design.now }
+    ensures value { IfOk result (λ accepted. accepted ≡ spec.accepted_of (⟦<Rules as Stating>⟧.stated
+        rules.now) design.now) }
+    ensures only { IfOk result (λ accepted. IsOnlySolution (⟦<Rules as Stating>⟧.stated rules.now)
+        design.now accepted.edges accepted.solution) }
+    ensures passes { IfOk result (λ _. first_failing (design_checks (⟦<Rules as Stating>⟧.stated
+        rules.now) design.now) ≡ None) }
+    ensures apart { IfOk result (λ accepted. All HasDisjointSets accepted.solution.up) }
+    ensures owners { IfOk result (λ accepted. All HasOneOwnerEach accepted.solution.up) }
+    ensures sound { IfOk result (λ accepted. IsSound accepted.plan) }
+    ensures stands { IfOk result (λ accepted. StandsTo design.now accepted.edges accepted.solution
+        accepted.plan) }
+    ensures err { IfErr result (IsFaultOf (first_failing (design_checks (⟦<Rules as Stating>⟧.stated
+        rules.now) design.now))) }
 {
-    let accepted = check_design(alloc, design, rules)?;
-    let edges = accepted.edges;
-    let solution = accepted.solution;
+    let agreed = check_design(alloc, design, rules)?;
+    let edges = agreed.edges;
+    let solution = agreed.solution;
     let _largest = edges_have_sizes(solution.up.as_slice());
     let plan = plan_of(alloc, design, rules, edges.as_slice(), &solution)?;
-    Ok(Planned {
+    Ok(Accepted {
         edges,
         solution,
         plan,

@@ -13,7 +13,7 @@ use Rattle.dip_graph.specs.declared.design.NodeKind.TheVariants.{Source, Sink, R
 use Rattle.dip_graph.specs.declared.design.NodeEntry.{NodeEntry}
 use Rattle.dip_graph.specs.declared.design.Design.{Design}
 use Rattle.dip_graph.specs.declared.edges.Edge.{Edge}
-use Rattle.dip_checks.specs.declared.accepted.Accepted.{Accepted}
+use Rattle.dip_plan.specs.declared.accepted.Accepted.{Accepted}
 
 -- a node's name, `?` where there is no such node
 abbrev pub name_of : Option NodeEntry → List ℕ

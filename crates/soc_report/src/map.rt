@@ -2,7 +2,7 @@ ghost use Rattle.std.specs.Prelude.{◌≡◌, ◌++◌, decimal, IfOk, OnOk};
 ghost use Rattle.soc_report.specs.MapText as spec;
 
 use crate::ports::add_all_lines;
-use dip_checks::Accepted;
+use dip_plan::Accepted;
 use dip_graph::Design;
 use dip_lists::{Bytes, Memory};
 use dip_text::Text;

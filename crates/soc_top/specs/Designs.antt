@@ -5,8 +5,11 @@ use Rattle.dip_graph.specs.declared.design.Design.{Design}
 use Rattle.dip_rule.specs.Stated.{StatedRule}
 use Rattle.dip_negotiate.specs.Negotiation.{IsOnlySolution}
 use Rattle.tl_params.specs.Apart.{HasDisjointSets}
-use Rattle.dip_checks.specs.declared.accepted.Accepted.{Accepted}
-use Rattle.dip_checks.specs.Checks.{design_checks, accepted_of, edges_in}
+use Rattle.tl_edge.specs.SoundPlans.{IsSound}
+use Rattle.dip_checks.specs.Checks.{design_checks, edges_in}
+use Rattle.dip_plan.specs.declared.accepted.Accepted.{Accepted}
+use Rattle.dip_plan.specs.DesignPlans.{accepted_of}
+use Rattle.dip_plan.specs.Standing.{StandsTo}
 use Rattle.soc_design.specs.Reading.{file_checks, stated_design}
 use Rattle.soc_report.specs.declared.status.Status.{Status}
 use Rattle.soc_report.specs.declared.status.Status.TheVariants.{Done, Refused}
@@ -45,7 +48,8 @@ abbrev pub due_text : List StatedRule → List ℕ → Option Failure → List �
 due_text rules bytes None = map_of rules bytes
 due_text rules bytes (Some failure) = line_of (answer_of (Some failure))
 
--- The map of what a file states: of the only solution of its design, in which no address is in two sets of an edge.
+-- The map of what a file states: of the only solution of its design, in which no address is in two sets of an edge,
+-- and whose plan is sound.
 pub record IsMapOf (rules : List StatedRule) (bytes printed : List ℕ) : Type 0 where
   pub design : Design
   pub stated : stated_design bytes ≡ Some design
@@ -53,4 +57,6 @@ pub record IsMapOf (rules : List StatedRule) (bytes printed : List ℕ) : Type 0
   pub edges : accepted.edges ≡ edges_in rules design
   pub only : IsOnlySolution rules design accepted.edges accepted.solution
   pub apart : All HasDisjointSets accepted.solution.up
+  pub sound : IsSound accepted.plan
+  pub stands : StandsTo design accepted.edges accepted.solution accepted.plan
   pub text : printed ≡ map_text design accepted

@@ -3,9 +3,12 @@ ghost use Rattle.std.specs.Option.{option_map};
 ghost use Rattle.dip_lists.specs.First.{first_failing};
 ghost use Rattle.dip_io.specs.Outside.{SameContent};
 ghost use Rattle.tl_params.specs.Apart.{HasDisjointSets};
-ghost use Rattle.dip_graph.specs.Edges.{HasNodes};
+ghost use Rattle.dip_graph.specs.WellStated.{IsWellStated};
 ghost use Rattle.dip_negotiate.specs.Negotiation.{IsOnlySolution};
-ghost use Rattle.dip_checks.specs.Checks.{accepted_of, design_checks};
+ghost use Rattle.tl_edge.specs.SoundPlans.{IsSound};
+ghost use Rattle.dip_checks.specs.Checks.{design_checks};
+ghost use Rattle.dip_plan.specs.DesignPlans.{accepted_of};
+ghost use Rattle.dip_plan.specs.Standing.{StandsTo};
 ghost use Rattle.soc_report.specs.MapText.{map_text};
 ghost use Rattle.dip_graph.specs.Faults.{IsFaultOf};
 ghost use Rattle.soc_report.specs.Lines.{line_of};
@@ -15,10 +18,10 @@ ghost use Rattle.soc_top.specs.Designs.{first_failure, map_of, IsMapOf};
 ghost use Rattle.soc_top.specs.Printing.{Printed, RunsOn};
 ghost use Rattle.soc_top.specs.Answers.{Answered, Completed, world};
 
-use dip_checks::check_design;
 use dip_graph::{Design, Fault};
 use dip_io::{Failed, Files, LoadFault, Out, put_all};
 use dip_lists::Bytes;
+use dip_plan::check;
 use dip_rule::{Rules, Stating};
 use soc_design::{MOST_BYTES, read_design};
 use soc_report::{Status, fault_text, map_text};
@@ -50,9 +53,7 @@ fn finish<O: Out>(status: Status, out: &mut O) -> Status
 
 // The map of a design, or the first check that it fails.
 fn map_of_design(alloc: Global, design: &Design, rules: &Rules) -> Result<Bytes, Fault>
-    requires nodes { length design.now.nodes ≤ 256 }
-    requires binds { length design.now.binds ≤ 1024 }
-    requires named { All (HasNodes design.now.nodes) design.now.binds }
+    requires { IsWellStated design.now }
     ensures passes { IfOk result (λ _. first_failing (design_checks (⟦<Rules as Stating>⟧.stated
         rules.now) design.now) ≡ None) }
     ensures map { IfOk result (λ text. text ≡ map_text design.now (accepted_of
@@ -64,8 +65,12 @@ fn map_of_design(alloc: Global, design: &Design, rules: &Rules) -> Result<Bytes,
         (accepted_of (⟦<Rules as Stating>⟧.stated rules.now) design.now).solution) }
     ensures apart { IfOk result (λ _. All HasDisjointSets (accepted_of (⟦<Rules as Stating>⟧.stated
         rules.now) design.now).solution.up) }
+    ensures planned { IfOk result (λ _. IsSound (accepted_of (⟦<Rules as Stating>⟧.stated rules.now)
+        design.now).plan × StandsTo design.now (accepted_of (⟦<Rules as Stating>⟧.stated rules.now)
+        design.now).edges (accepted_of (⟦<Rules as Stating>⟧.stated rules.now) design.now).solution
+        (accepted_of (⟦<Rules as Stating>⟧.stated rules.now) design.now).plan) }
 {
-    let accepted = check_design(alloc, design, rules)?;
+    let accepted = check(alloc, design, rules)?;
     let text = map_text(alloc, design, &accepted)?;
     Ok(text)
 }

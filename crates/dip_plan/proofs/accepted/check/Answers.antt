@@ -8,7 +8,7 @@ use Rattle.dip_plan.proofs.accepted.check.Goals as goal
 pub plan_of-requires-clause-edges : goal.plan_of-requires-clause-edges
 plan_of-requires-clause-edges g c =
     let few = few_edges (stated_by (goal.Rule-dyn g) c.args.rules.now)
-    c.args.design.now c.in_ok-accepted.accepted c.requires.stated.bound c.in_ok-accepted.ensures.passes c.in_ok-accepted.ensures.value in
+    c.args.design.now c.in_ok-agreed.agreed c.requires.bound c.in_ok-agreed.ensures.passes c.in_ok-agreed.ensures.value in
     let same = ap length c.as_slice-2.ensures in
     omega arith
 
@@ -16,10 +16,10 @@ pub plan_of-requires-clause-to : goal.plan_of-requires-clause-to
 plan_of-requires-clause-to g c =
     subst (λ (es : List Edge). All (λ (edge : Edge). edge.to < length c.args.design.now.nodes) es) (sym c.as_slice-2.ensures)
     (ends_exist (stated_by (goal.Rule-dyn g) c.args.rules.now)
-    c.args.design.now c.in_ok-accepted.accepted c.requires.stated.bound c.in_ok-accepted.ensures.passes c.in_ok-accepted.ensures.value).0
+    c.args.design.now c.in_ok-agreed.agreed c.requires.bound c.in_ok-agreed.ensures.passes c.in_ok-agreed.ensures.value).0
 
 pub plan_of-requires-clause-from : goal.plan_of-requires-clause-from
 plan_of-requires-clause-from g c =
     subst (λ (es : List Edge). All (λ (edge : Edge). edge.from < length c.args.design.now.nodes) es) (sym c.as_slice-2.ensures)
     (ends_exist (stated_by (goal.Rule-dyn g) c.args.rules.now)
-    c.args.design.now c.in_ok-accepted.accepted c.requires.stated.bound c.in_ok-accepted.ensures.passes c.in_ok-accepted.ensures.value).1
+    c.args.design.now c.in_ok-agreed.agreed c.requires.bound c.in_ok-agreed.ensures.passes c.in_ok-agreed.ensures.value).1

@@ -18,4 +18,4 @@ returns-clause-err g c = faults_all _ c.args.bytes.now c.in_ok-design.design c.i
 
 pub returns-clause-mapped : goal.returns-clause-mapped
 returns-clause-mapped g c =
-    maps_only _ c.args.bytes.now c.in_ok-design.design c.in_ok-design.ensures.ok c.in_ok-design.ensures.passes c.map_of_design.result c.map_of_design.ensures.map c.map_of_design.ensures.only c.map_of_design.ensures.apart
+    maps_only _ c.args.bytes.now c.in_ok-design.design c.in_ok-design.ensures.ok c.in_ok-design.ensures.passes c.map_of_design.result c.map_of_design.ensures.map c.map_of_design.ensures.only c.map_of_design.ensures.apart c.map_of_design.ensures.planned

@@ -1,9 +1,16 @@
 use Rattle.std.proofs.Common.{subst}
 use Rattle.std.specs.Prelude.{All}
 use Rattle.tl_params.specs.Apart.{HasDisjointSets}
-use Rattle.dip_checks.specs.declared.accepted.Accepted.{Accepted}
+use Rattle.tl_edge.specs.SoundPlans.{IsSound}
+use Rattle.dip_plan.specs.declared.accepted.Accepted.{Accepted}
+use Rattle.dip_plan.specs.Standing.{StandsTo}
 use Rattle.soc_top.proofs.top.map_of_design.Goals as goal
 
 pub returns-clause-apart : goal.returns-clause-apart
 returns-clause-apart g c =
     subst (λ (a : Accepted). All HasDisjointSets a.solution.up) c.in_ok-accepted.ensures.value c.in_ok-accepted.ensures.apart
+
+pub returns-clause-planned : goal.returns-clause-planned
+returns-clause-planned g c =
+    subst (λ (a : Accepted). IsSound a.plan × StandsTo c.args.design.now a.edges a.solution a.plan) c.in_ok-accepted.ensures.value
+    (c.in_ok-accepted.ensures.sound, c.in_ok-accepted.ensures.stands)
