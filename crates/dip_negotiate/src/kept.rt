@@ -1,0 +1,111 @@
+ghost use Rattle.std.specs.Prelude.{◌≡◌, ◌<◌, ◌++◌, [], Some, None, get_or, length, replicate, slice_set, IfOk, OnOk};
+ghost use Rattle.std.specs.Option.{option_copied};
+ghost use Rattle.dip_negotiate.specs.Demands as spec;
+ghost use Rattle.dip_negotiate.specs.Passes.{beside};
+
+use crate::negotiated::Negotiated;
+use dip_lists::{Items, Memory};
+use std::alloc::Global;
+
+/// So many ports of which none is known.
+pub fn nothing<P: Drop>(alloc: Global, count: usize) -> Result<Vec<Option<P>>, Memory>
+    ensures { IfOk result (λ ports. ports.items ≡ replicate count None) }
+{
+    let mut ports = Vec::new(alloc);
+    for _edge in 0..count {
+        ports.push(None)?;
+    }
+    Ok(ports)
+}
+
+// The port at a place, where there is one.
+fn at<P>(ports: &[Option<P>], place: u32) -> Option<&P>
+    ensures { option_copied result ≡ get_or ports.now place None }
+{
+    if (place as usize) < ports.len() {
+        ports[place as usize].as_ref()
+    } else {
+        None
+    }
+}
+
+/// The port of an edge, where it is known.
+#[tactic(auto, using(crate::proofs::Seen::seen_at, crate::proofs::Seen::seen_past))]
+pub fn port_at<'a, P>(firsts: &[u32], ports: &'a [Option<P>], edge: u32) -> Option<&'a P>
+    ensures { option_copied result ≡ get_or (spec.seen firsts.now ports.now) edge None }
+{
+    if (edge as usize) < firsts.len() {
+        at(ports, firsts[edge as usize])
+    } else {
+        None
+    }
+}
+
+/// Whether the port of an edge is known.
+pub fn keeps<P>(firsts: &[u32], ports: &[Option<P>], edge: u32) -> bool
+    ensures { result ≡ spec.keeps (spec.seen firsts.now ports.now) edge }
+{
+    port_at(firsts, ports, edge).is_some()
+}
+
+// Adds a copy of a port, where there is one.
+#[tactic(auto, using(crate::proofs::Seen::beside_none))]
+fn pick<P: Negotiated>(alloc: Global, port: Option<&P>, some: &mut Items<P>) -> Result<(), Memory>
+    ensures { OnOk result (some.new ≡ some.old ++ beside (option_copied port.entry) []) }
+{
+    match port {
+        Some(port) => some.push(port.duplicate(alloc)?),
+        None => Ok(()),
+    }
+}
+
+/// Copies of the ports of some edges by their numbers, of those that are known.
+#[tactic(auto, using(crate::proofs::Picks::beside_more))]
+pub fn picked<P: Negotiated>(
+    alloc: Global,
+    firsts: &[u32],
+    ports: &[Option<P>],
+    numbers: &[u32],
+) -> Result<Items<P>, Memory>
+    ensures { IfOk result (λ some. some ≡ spec.known_of (spec.seen firsts.now ports.now) numbers.now) }
+{
+    let mut some = Items::new(alloc);
+    for number in numbers {
+        pick(alloc, port_at(firsts, ports, *number), &mut some)?;
+    }
+    Ok(some)
+}
+
+/// Copies of the ports of all edges, of those that are known.
+#[tactic(auto, using(crate::proofs::Picks::beside_more))]
+pub fn gathered<P: Negotiated>(
+    alloc: Global,
+    firsts: &[u32],
+    ports: &[Option<P>],
+) -> Result<Items<P>, Memory>
+    ensures { IfOk result (λ some. some ≡ spec.gathered (spec.seen firsts.now ports.now)) }
+{
+    let mut some = Items::new(alloc);
+    for first in firsts {
+        pick(alloc, at(ports, *first), &mut some)?;
+    }
+    Ok(some)
+}
+
+// Puts a port in a place, where there is one.
+#[tactic(auto, using(crate::proofs::Picks::set_past))]
+fn put<P: Drop>(ports: &mut Vec<Option<P>>, place: u32, port: P)
+    ensures { ports.new.items ≡ slice_set ports.old.items place (Some port) }
+{
+    if (place as usize) < ports.len() {
+        ports[place as usize] = Some(port);
+    }
+}
+
+/// Keeps the port of an edge at the first edge of its place.
+pub fn keep<P: Drop>(firsts: &[u32], ports: &mut Vec<Option<P>>, edge: u32, port: P)
+    requires { edge < length firsts.now }
+    ensures { ports.new.items ≡ slice_set ports.old.items (get_or firsts.now edge 0) (Some port) }
+{
+    put(ports, firsts[edge as usize], port);
+}
