@@ -85,6 +85,16 @@ abbrev pub known_of : {P : Type 0} → List (Option P) → List ℕ → List P
 known_of known [] = []
 known_of known (k ∷ ks) = beside (get_or known k None) (known_of known ks)
 
+-- how many masters or slaves a port has, none where there is no port
+abbrev pub counted : {P : Type 0} → (P → ℕ) → Option P → ℕ
+counted count None = 0
+counted count (Some port) = count port
+
+-- how many all known ports have together
+abbrev pub total : {P : Type 0} → (P → ℕ) → List (Option P) → ℕ
+total count [] = 0
+total count (port ∷ ports) = counted count port + total count ports
+
 -- the known ports in the order of edges
 abbrev pub gathered : {P : Type 0} → List (Option P) → List P
 gathered [] = []

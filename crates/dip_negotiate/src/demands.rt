@@ -1,4 +1,4 @@
-ghost use Rattle.std.specs.Prelude.{◌≡◌, ◌<◌, ◌^◌, ℕ, true, length, replicate, Ok, Err, IfOk, OnOk};
+ghost use Rattle.std.specs.Prelude.{◌+◌, ◌≤◌, ◌≡◌, ◌<◌, ◌^◌, ℕ, true, length, replicate, Ok, Err, IfOk, OnOk};
 ghost use Rattle.dip_negotiate.specs.Passes.{refusal, run};
 ghost use Rattle.dip_graph.specs.declared.edges.Edge.{Edge};
 ghost use Rattle.dip_rule.specs.Stated.{Answers};
@@ -6,7 +6,7 @@ ghost use Rattle.dip_negotiate.specs.Demands as spec;
 ghost use Rattle.dip_negotiate.specs.Turns.{AreShared, GoesOn, InTurn, SameFirst, StopsAt, marked};
 ghost use Rattle.dip_negotiate.specs.declared.demands.PassFault.TheVariants as fault;
 
-use crate::kept::{gathered, keep, keeps, picked};
+use crate::kept::{gathered, keep, keeps, make_room, picked};
 use crate::marking::{marks_of, needed, wants};
 use crate::negotiated::Negotiated;
 use crate::steps::Step;
@@ -37,7 +37,7 @@ impl From<Memory> for PassFault {
     }
 }
 
-// What is stated of an edge from the known ports.
+// What is stated of an edge from the known ports; `Memory` where there is no room to keep it.
 fn stated<P: Negotiated>(
     alloc: Global,
     rules: &Rules,
@@ -48,13 +48,17 @@ fn stated<P: Negotiated>(
     edge: &Edge,
 ) -> Result<P, RuleFault>
     requires { length edges.now < 2 ^ 32 }
-    ensures { Answers ((P.pass (⟦<Rules as Stating>⟧.stated rules.now) nodes.now edges.now).says
+    ensures list { IfOk result (λ port. P.count port ≤ 1048576) }
+    ensures together { IfOk result (λ port. P.count port + spec.total P.count ports.now ≤ P.MOST_ENTRIES) }
+    ensures value { Answers ((P.pass (⟦<Rules as Stating>⟧.stated rules.now) nodes.now edges.now).says
         edge.now (spec.known_of (spec.seen firsts.now ports.now)
         ((P.pass (⟦<Rules as Stating>⟧.stated rules.now) nodes.now edges.now).asks edge.now))) result }
 {
     let numbers = P::asks(alloc, rules, nodes, edges, edge)?;
     let some = picked(alloc, firsts, ports, numbers.as_slice())?;
-    P::says(alloc, rules, nodes, edges, edge, some.as_slice())
+    let port = P::says(alloc, rules, nodes, edges, edge, some.as_slice())?;
+    make_room(ports, port.entries())?;
+    Ok(port)
 }
 
 /// Asks for the port of each marked edge that isn't known, in turn, and keeps it.

@@ -26,6 +26,11 @@ pub trait Negotiated: Duplicate {
 
     ghost count: { Self → ℕ };
 
+    ghost MOST_ENTRIES: { ℕ };
+
+    /// How many masters or slaves are kept or copied together at most.
+    const MOST_ENTRIES: usize;
+
     /// The end of an edge at the node that makes its port.
     fn near(edge: &Edge) -> End
         ensures { result ≡ near edge.now };
@@ -68,6 +73,12 @@ impl Negotiated for DownPort {
 
     ghost count = { λ port. length port.masters };
 
+    ghost MOST_ENTRIES = { 8388608 };
+
+    // A master has 64 bytes. An accepted design has at most 1,024 edges with 1,024 masters each, since all ids
+    // are below 1,024.
+    const MOST_ENTRIES: usize = 8_388_608;
+
     fn near(edge: &Edge) -> End {
         source_end(edge)
     }
@@ -106,6 +117,12 @@ impl Negotiated for UpPort {
     ghost near = { ends.sink_end };
 
     ghost count = { λ port. length port.slaves };
+
+    ghost MOST_ENTRIES = { 4194304 };
+
+    // A slave has about 150 bytes. An accepted design has at most 1,024 edges with 1,024 slaves each, since
+    // each slave is a port of a sink and no edge shows one twice.
+    const MOST_ENTRIES: usize = 4_194_304;
 
     fn near(edge: &Edge) -> End {
         sink_end(edge)

@@ -26,7 +26,7 @@ returns-in-Err-Refused-clause-refused g c edge number e =
     let wanted = wants_is c.args.marks.now c.args.firsts.now c.deref.result.now c.loop-turn.ports.items step.number c.wants.result true c.deref.ensures.value c.wants.ensures c.if-wants.true in
     let number_is : c.in-Err-Refused.number ≡ number = cc in
     let edge_is : step.edge ≡ edge = cc in
-    let answer = err_says (pass.says step.edge (known_of (seen c.args.firsts.now c.deref-then-wants.result.now) (pass.asks step.edge))) c.in-Err-Refused.field-0 c.in-Err-Refused.number c.in-Err-Refused.field-0-is c.in-Err-Refused.ensures in
+    let answer = err_says (pass.says step.edge (known_of (seen c.args.firsts.now c.deref-then-wants.result.now) (pass.asks step.edge))) c.in-Err-Refused.field-0 c.in-Err-Refused.number c.in-Err-Refused.field-0-is c.in-Err-Refused.ensures.value in
     let said = says_of pass step.edge c.args.firsts.now c.deref-then-wants.result.now c.loop-turn.ports.items (Err c.in-Err-Refused.number) c.deref-then-wants.ensures.value answer in
     subst (λ x. StopsAt pass c.args.steps.now c.args.marks.now (seen c.args.firsts.now c.loop-turn.ports.items) x number) edge_is
     (subst (λ n. StopsAt pass c.args.steps.now c.args.marks.now (seen c.args.firsts.now c.loop-turn.ports.items) step.edge n) number_is
@@ -41,7 +41,7 @@ loop-turn-preserved g c =
     elim c.if-wants.branch [
       | then-wants+in-Ok w ↦ (
           let wanted = wants_is c.args.marks.now c.args.firsts.now c.deref.result.now c.loop-turn.ports.items step.number c.wants.result true c.deref.ensures.value c.wants.ensures w.if-wants.true in
-          let said = says_of pass step.edge c.args.firsts.now w.deref-then-wants.result.now c.loop-turn.ports.items (Ok w.in-Ok.port) w.deref-then-wants.ensures.value w.in-Ok.ensures in
+          let said = says_of pass step.edge c.args.firsts.now w.deref-then-wants.result.now c.loop-turn.ports.items (Ok w.in-Ok.port) w.deref-then-wants.ensures.value w.in-Ok.ensures.value in
           let e : c.if-wants.ports.items ≡ slice_set c.loop-turn.ports.items (get_or c.args.firsts.now step.number 0) (Some w.in-Ok.port) = cc in
           subst (λ (x : _). AskedTo pass c.args.edges.now c.args.steps.now c.args.firsts.now c.args.marks.now c.args.ports.now.items x (c.loop-turn.turn + 1)) (sym e)
           (asked_one pass c.args.edges.now c.args.steps.now c.args.firsts.now c.args.marks.now c.args.ports.now.items c.requires.in_turn c.requires.shared c.requires.goes_on c.loop-turn.ports.items
