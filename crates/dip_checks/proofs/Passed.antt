@@ -10,13 +10,14 @@ use Rattle.dip_lists.proofs.Tests.{neither}
 use Rattle.dip_sets.specs.declared.ids.IdRange.{IdRange}
 use Rattle.dip_sets.specs.Ids.{DisjointIds, overlap_ids}
 use Rattle.dip_sets.specs.Sets.{Pattern, alignment}
+use Rattle.tl_params.specs.Aligned.{IsAligned, HasAlignedSets}
 use Rattle.tl_params.specs.Operations.{largest}
 use Rattle.tl_params.specs.declared.ports.Master.{Master}
 use Rattle.tl_params.specs.declared.ports.Slave.{Slave}
 use Rattle.tl_params.specs.declared.ports.DownPort.{DownPort}
 use Rattle.tl_params.specs.declared.ports.UpPort.{UpPort}
 use Rattle.dip_checks.specs.Checks.{has_wrong_ids, share_ids, masters_are_wrong, slave_is_misaligned, edge_is_misaligned}
-use Rattle.dip_checks.specs.Laws.{HasOwnIds, HasAlignedSets, PortsLaw}
+use Rattle.dip_checks.specs.Laws.{HasOwnIds, PortsLaw}
 use Rattle.dip_checks.proofs.Disjointness.{passes_here}
 
 -- what fails nowhere in a list holds of each element
@@ -62,12 +63,12 @@ own_ids down h =
 aligned_set : (bytes : ℕ) (s : Pattern) → nat_lt (alignment s) bytes ≡ false → bytes ≤ alignment s
 aligned_set bytes s h = grind (arith, nat_tests)
 
-aligned_slave : (slave : Slave) → slave_is_misaligned slave ≡ false → All (λ s. largest slave.supports ≤ alignment s) slave.addresses
+aligned_slave : (slave : Slave) → slave_is_misaligned slave ≡ false → IsAligned slave
 aligned_slave slave h =
     each (λ s. nat_lt (alignment s) (largest slave.supports)) (λ s. largest slave.supports ≤ alignment s) (aligned_set (largest slave.supports)) slave.addresses h
 
 aligned_edge : (up : UpPort) → edge_is_misaligned up ≡ false → HasAlignedSets up
-aligned_edge up h = each slave_is_misaligned (λ (slave : Slave). All (λ s. largest slave.supports ≤ alignment s) slave.addresses) aligned_slave up.slaves h
+aligned_edge up h = each slave_is_misaligned IsAligned aligned_slave up.slaves h
 
 pub ports : PortsLaw
 ports = record {

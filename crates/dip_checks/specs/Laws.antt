@@ -2,11 +2,9 @@
 use Rattle.std.specs.Prelude.{◌≡◌, ◌<◌, ◌≤◌, List, All, AllPairs, Some, None}
 use Rattle.dip_lists.specs.First.{Failure, first, first_failing}
 use Rattle.dip_lists.specs.FirstLaw.{Fails, AreInOrder, IsFirstFailure}
-use Rattle.dip_sets.specs.Sets.{alignment}
 use Rattle.dip_sets.specs.Ids.{DisjointIds}
-use Rattle.tl_params.specs.Operations.{largest}
+use Rattle.tl_params.specs.Aligned.{HasAlignedSets}
 use Rattle.tl_params.specs.declared.ports.Master.{Master}
-use Rattle.tl_params.specs.declared.ports.Slave.{Slave}
 use Rattle.tl_params.specs.declared.ports.DownPort.{DownPort}
 use Rattle.tl_params.specs.declared.ports.UpPort.{UpPort}
 use Rattle.dip_graph.specs.declared.design.Design.{Design}
@@ -29,11 +27,6 @@ pub record CheckOrderLaw : Type 0 where
 pub record HasOwnIds (down : DownPort) : Type 0 where
   pub within : All (λ (m : Master). (m.ids.start < m.ids.end) × (m.ids.end ≤ 1024)) down.masters
   pub apart : AllPairs (λ (m other : Master). DisjointIds m.ids other.ids) down.masters
-
--- each set of the edge is aligned to its slave's largest transfer
-abbrev pub HasAlignedSets : UpPort → Type 0
-HasAlignedSets up =
-    All (λ (slave : Slave). All (λ s. largest slave.supports ≤ alignment s) slave.addresses) up.slaves
 
 -- what the checks 13 and 15 say where they pass
 pub record PortsLaw : Type 0 where

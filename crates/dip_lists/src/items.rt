@@ -1,4 +1,4 @@
-ghost use Rattle.std.specs.Prelude.{◌≡◌, ◌<◌, ◌↔◌, [], ◌∷◌, ◌++◌, length, slice_get, IsTrue, IfOk, OnOk, OnErr};
+ghost use Rattle.std.specs.Prelude.{◌≡◌, ◌<◌, ◌↔◌, [], ◌∷◌, ◌++◌, length, slice_get, slice_set, IsTrue, IfOk, OnOk, OnErr};
 ghost use Rattle.std.specs.Option.{option_copied};
 
 use crate::Memory;
@@ -29,6 +29,10 @@ impl<T> Model for Items<T> {
 }
 
 impl<T> Items<T> {
+    ghost use Rattle.std.specs.Borrow.{Lends, sem, Array};
+    ghost use Rattle.dip_lists.specs.Refilled.{refilled};
+    ghost use Rattle.dip_lists.specs.contracts.items.Items.{the_row};
+
     /// The empty list, which takes its memory from `alloc` as it grows.
     pub fn new(alloc: Global) -> Items<T>
         ensures { result ≡ [] }
@@ -58,6 +62,14 @@ impl<T> Items<T> {
         ensures { result.now ≡ self.now }
     {
         self.items.as_slice()
+    }
+
+    /// The items as a slice whose items can be replaced; the list keeps its length.
+    pub fn as_mut_slice(&mut self) -> &mut [T]
+        ensures* lends { sem 𝓛 (Lends (the_row T.row) (Array T.row 0) self.entry result (refilled self.old)) }
+        ensures value { result.now ≡ self.old }
+    {
+        self.items.as_mut_slice()
     }
 
     /// How many items there are.
@@ -113,5 +125,21 @@ impl<T: Copy> Items<T> {
     {
         let items = Vec::from_slice(alloc, self.items.as_slice())?;
         Ok(Items { items })
+    }
+
+    /// Replaces the items by as many others, and takes no memory.
+    pub fn refill(&mut self, items: &[T])
+        requires { length items.now ≡ length self.old }
+        ensures { self.new ≡ items.now }
+    {
+        self.as_mut_slice().copy_from_slice(items);
+    }
+
+    /// Replaces the item at a place, and takes no memory.
+    pub fn set(&mut self, place: usize, item: T)
+        requires { place < length self.old }
+        ensures { self.new ≡ slice_set self.old place item }
+    {
+        self.as_mut_slice()[place] = item;
     }
 }

@@ -29,20 +29,23 @@ and_not_bits x m i hx hm =
       | inr ge ↦ let zero_x : bit_at x i ≡ 0 = bit_at_above x 64 i hx ge in omega (arith, bit_at_and x (2 ^ 64 - 1 - m) i)
     ]
 
--- the bits m of a mask, b of a base, x of a number, r of `x & !m`
-one_bit : (m b x r : ℕ) → x < 2 → b < 2 → m < 2 → (m ≡ 0 → x ≡ b) → min b m ≡ 0 → r ≡ min x (1 - m) → r ≡ b
+-- the bits m of a mask, b of a base, x of a number, r of `x & m | b`
+one_bit : (m b x r : ℕ) → x < 2 → b < 2 → m < 2 → (m ≡ 0 → x ≡ b) → min b m ≡ 0 → r ≡ max (min x m) b → r ≡ x
 one_bit m b x r lx lb lm h a e = grind arith
 
-outside : (m b x r : ℕ) → x < 2 → m ≡ 0 → r ≡ min x (1 - m) → r ≡ b → x ≡ b
-outside m b x r lx z e h = omega arith
+outside : (m b x r : ℕ) → m ≡ 0 → r ≡ max (min x m) b → r ≡ x → x ≡ b
+outside m b x r z e h = omega arith
+
+-- a bit of a number with a base in place of its bits outside a mask
+member_bit : (b m x i : ℕ) → bit_at (bit_or (bit_and x m) b) i ≡ max (min (bit_at x i) (bit_at m i)) (bit_at b i)
+member_bit b m x i = rw (bit_at_or (bit_and x m) b i, bit_at_and x m i) refl
 
 -- what the test of `contains` says
-pub contains_is : (b m x : ℕ) → bit_and b m ≡ 0 → b < 2 ^ 48 → m < 2 ^ 48 → x < 2 ^ 64 → (bit_and x (2 ^ 64 - 1 - m) ≡ b) ↔ ((i : ℕ) → bit_at m i ≡ 0 → bit_at x i ≡ bit_at b i)
-contains_is b m x apart hb hm hx =
-    let hm64 : m < 2 ^ 64 = omega arith in (
-      λ h i zero_m. outside (bit_at m i) (bit_at b i) (bit_at x i) _ (bit_at-lt x i) zero_m (and_not_bits x m i hx hm64) (ap (λ n. bit_at n i) h),
-      λ h. same_from_bits _ _ (λ i. one_bit (bit_at m i) (bit_at b i) (bit_at x i) _ (bit_at-lt x i) (bit_at-lt b i) (bit_at-lt m i) (h i) (apart_bits b m i apart) (and_not_bits x m i hx hm64)),
-    )
+pub contains_is : (b m x : ℕ) → bit_and b m ≡ 0 → (bit_or (bit_and x m) b ≡ x) ↔ ((i : ℕ) → bit_at m i ≡ 0 → bit_at x i ≡ bit_at b i)
+contains_is b m x apart = (
+  λ h i zero_m. outside (bit_at m i) (bit_at b i) (bit_at x i) _ zero_m (member_bit b m x i) (ap (λ n. bit_at n i) h),
+  λ h. same_from_bits _ _ (λ i. one_bit (bit_at m i) (bit_at b i) (bit_at x i) _ (bit_at-lt x i) (bit_at-lt b i) (bit_at-lt m i) (h i) (apart_bits b m i apart) (member_bit b m x i)),
+)
 
 -- ---- overlaps
 

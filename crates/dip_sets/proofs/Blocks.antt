@@ -39,7 +39,7 @@ divides_below n j t divides one = elim (cases_lt t j) [
 powers_le : (i j : ℕ) → i ≤ j → 2 ^ i ≤ 2 ^ j
 powers_le i j h = pow-le-pow_right {n = 2} (omega arith) {i = i} {j = j} h
 
-exponent_le : (j l size : ℕ) → 2 ^ j ≤ size → size < 2 * 2 ^ l → j ≤ l
+pub exponent_le : (j l size : ℕ) → 2 ^ j ≤ size → size < 2 * 2 ^ l → j ≤ l
 exponent_le j l size fits below = elim (cases_lt l j) [
   | inl lt ↦ let more = powers_le (suc l) j (omega arith) in absurd (omega (arith, pow-suc 2 l))
   | inr ge ↦ ge
@@ -101,12 +101,15 @@ block_bits start k x = (
   ],
 )
 
+pub multiple_members : (start block x : ℕ) → IsPowerOfTwo block → start % block ≡ 0 → In (block_set start block) x ↔ ((start ≤ x) × (x < start + block))
+multiple_members start block x power multiple = subst (λ p. start % p ≡ 0 → In (block_set start p) x ↔ ((start ≤ x) × (x < start + p))) (sym power.1) (λ divides.
+    let whole : start / 2 ^ power.0 * 2 ^ power.0 ≡ start = omega (arith, shr_split start power.0) in
+    let range = same_quotient x (start / 2 ^ power.0) (2 ^ power.0) (pow_pos power.0) in
+    let bits = block_bits start power.0 x in
+    (λ m. rw whole at (range.0 (bits.0 m)), λ r. bits.1 (range.1 (rw whole r)))) multiple
+
 block_members : (start size block x : ℕ) → IsBlock start size block → In (block_set start block) x ↔ ((start ≤ x) × (x < start + block))
-block_members start size block x h = subst (λ p. start % p ≡ 0 → In (block_set start p) x ↔ ((start ≤ x) × (x < start + p))) (sym h.power.1) (λ divides.
-    let whole : start / 2 ^ h.power.0 * 2 ^ h.power.0 ≡ start = omega (arith, shr_split start h.power.0) in
-    let range = same_quotient x (start / 2 ^ h.power.0) (2 ^ h.power.0) (pow_pos h.power.0) in
-    let bits = block_bits start h.power.0 x in
-    (λ m. rw whole at (range.0 (bits.0 m)), λ r. bits.1 (range.1 (rw whole r)))) h.divides
+block_members start size block x h = multiple_members start block x h.power h.divides
 
 -- ---- the laws of a split
 

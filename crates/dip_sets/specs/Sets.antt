@@ -1,5 +1,5 @@
 -- Address sets by the numbers in them.
-use Rattle.std.specs.Prelude.{ℕ, ◌≡◌, ◌↔◌, ◌<◌, ◌^◌, ◌-◌, ◌==◌, Bool, List, Any, bit_and, bit_or, bit_xor}
+use Rattle.std.specs.Prelude.{ℕ, ◌≡◌, ◌↔◌, ◌<◌, ◌^◌, ◌==◌, Bool, List, Any, bit_and, bit_or, bit_xor}
 use Rattle.std.specs.Int.{bit_at, trailing_ones, w64}
 
 -- a base and a mask, as bits
@@ -17,9 +17,9 @@ pub record IsSet (s : Pattern) : Type 0 where
 abbrev pub In : Pattern → ℕ → Type 0
 In s x = (i : ℕ) → bit_at s.mask i ≡ 0 → bit_at x i ≡ bit_at s.base i
 
--- the same as a test of 64 bits: `x & !mask == base`
+-- the same as a test, where no bit is in both: the number with the base in place of its bits outside the mask is itself
 abbrev pub is_in : Pattern → ℕ → Bool
-is_in s x = bit_and x (2 ^ 64 - 1 - s.mask) == s.base
+is_in s x = bit_or (bit_and x s.mask) s.base == x
 
 -- no number is in both
 abbrev pub Disjoint : Pattern → Pattern → Type 0

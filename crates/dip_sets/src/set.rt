@@ -73,7 +73,7 @@ impl AddressSet {
         ensures members { IsTrue result ↔ In self.now x }
         ensures test { result ≡ is_in self.now x }
     {
-        x & !self.mask == self.base
+        (x & self.mask) | self.base == x
     }
 
     /// Whether some address is in both sets.

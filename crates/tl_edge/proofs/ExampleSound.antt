@@ -14,13 +14,14 @@ use Rattle.tl_params.specs.declared.ops.Op.TheVariants.{PutFull, PutPartial, Ari
 use Rattle.tl_params.specs.declared.ops.Template.{Template}
 use Rattle.tl_params.specs.declared.ops.Template.TheVariants.{Buffer, Width, Fragmenter, Shrinker, Xbar}
 use Rattle.tl_params.specs.declared.ports.Slave.{Slave}
+use Rattle.tl_params.specs.Aligned.{IsAligned}
 use Rattle.tl_params.specs.Operations.{sizes_of}
 use Rattle.tl_params.specs.Arguments.{is_width}
 use Rattle.tl_params.specs.Owners.{sets_of}
 use Rattle.tl_edge.specs.declared.plan.Leaf.{Leaf}
 use Rattle.tl_edge.specs.declared.plan.PlanPort.{PlanPort}
 use Rattle.tl_edge.specs.Plans.{given_edges, taken_edges, edge_at, ins_of, outs_of, beat_of}
-use Rattle.tl_edge.specs.SoundPlans.{IsSound, IsSoundEdge, IsAligned, IsSmall, HasRanges, HasShape, Carries, Shows, MovesIds, LeavesIds, IsItsSlave, AreApart, IsShort}
+use Rattle.tl_edge.specs.SoundPlans.{IsSound, IsSoundEdge, IsSmall, HasRanges, HasShape, Carries, Shows, MovesIds, LeavesIds, IsItsSlave, AreApart, IsShort}
 use Rattle.tl_edge.specs.ExamplePlan.{example, edge, example_port, memory, device, reads_and_writes, from_core, to_crossbar, to_buffer, to_memory, to_width, to_fragmenter, to_device, shrinker, crossbar, buffer, width_adapter, fragmenter, core, ram, uart}
 use Rattle.tl_edge.proofs.Ways.{each_once, no_way_back, Rises}
 

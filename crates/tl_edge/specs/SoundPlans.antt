@@ -3,12 +3,13 @@ use Rattle.std.specs.Prelude.{ℕ, ◌≡◌, ◌+◌, ◌<◌, ◌≤◌, List,
 use Rattle.std.specs.Option.{option_map}
 use Rattle.dip_sets.specs.declared.ids.IdRange.{IdRange}
 use Rattle.dip_sets.specs.Assignments.{assigned}
-use Rattle.dip_sets.specs.Sets.{Disjoint, alignment}
+use Rattle.dip_sets.specs.Sets.{Disjoint}
 use Rattle.dip_sets.specs.SizeRanges.{SizeRange, size_range, is_size_range}
 use Rattle.tl_params.specs.declared.ops.Op.{Op}
 use Rattle.tl_params.specs.declared.ops.Template.{Template}
 use Rattle.tl_params.specs.declared.ops.Template.TheVariants.{Width, Fragmenter, Shrinker, Xbar}
 use Rattle.tl_params.specs.declared.ports.Slave.{Slave}
+use Rattle.tl_params.specs.Aligned.{IsAligned}
 use Rattle.tl_params.specs.Arguments.{is_width, fragment_arguments, shrink_argument}
 use Rattle.tl_params.specs.Carried.{slaves_fit}
 use Rattle.tl_params.specs.Operations.{largest, sizes_of}
@@ -22,10 +23,6 @@ use Rattle.tl_edge.specs.Bundles.{bundle}
 use Rattle.tl_edge.specs.Plans.{edge_at, ins_of, outs_of, joined_slaves, beat_of, given_edges, taken_edges, times, Reaches}
 
 -- ---- an edge by itself
-
--- each set is aligned to the slave's largest transfer
-abbrev pub IsAligned : Slave → Type 0
-IsAligned slave = All (λ s. largest slave.supports ≤ alignment s) slave.addresses
 
 -- no transfer is larger than 256 bytes, and no atomic one larger than 8
 pub record IsSmall (slave : Slave) : Type 0 where

@@ -1,5 +1,5 @@
 -- The owner of an address by the members of the slaves' sets.
-use Rattle.std.proofs.Common.{ℕ, zero, suc, ◌+◌, ◌^◌, ◌<◌, ◌≡◌, inl, inr, List, [], ◌∷◌, Bool, true, false, cond, All, Option, Some, None, unwrap_or, refl, sym, ap, subst, arith}
+use Rattle.std.proofs.Common.{ℕ, zero, suc, ◌+◌, ◌<◌, ◌≡◌, inl, inr, List, [], ◌∷◌, Bool, true, false, cond, All, Option, Some, None, unwrap_or, refl, sym, ap, subst, arith}
 use Rattle.std.specs.List.{list_any}
 use Rattle.std.proofs.lemmas.Bool.{cases_Bool}
 use Rattle.std.proofs.lemmas.List.Elements.{All-head, All-tail}
@@ -11,18 +11,18 @@ use Rattle.tl_params.specs.Owners.{holds, owner_from, owner}
 use Rattle.tl_params.specs.OwnerLaw.{Owns, HaveSets, IsOwner, OwnersByMembers}
 
 -- the test of some sets finds a member, and only a member
-in_some : (sets : List Pattern) (x : ℕ) → All IsSet sets → x < 2 ^ 64 → list_any (λ s. is_in s x) sets ≡ true → InSome sets x
-in_some [] x are fits test = absurd (grind arith)
-in_some (s ∷ sets) x are fits test = elim (cases_Bool (is_in s x)) [
-  | inl here ↦ any_head (λ s. In s x) s sets (in_from_test s x (All-head IsSet s sets are) fits here)
-  | inr not_here ↦ any_tail (λ s. In s x) s sets (in_some sets x (All-tail IsSet s sets are) fits (rw not_here at test))
+in_some : (sets : List Pattern) (x : ℕ) → All IsSet sets → list_any (λ s. is_in s x) sets ≡ true → InSome sets x
+in_some [] x are test = absurd (grind arith)
+in_some (s ∷ sets) x are test = elim (cases_Bool (is_in s x)) [
+  | inl here ↦ any_head (λ s. In s x) s sets (in_from_test s x (All-head IsSet s sets are) here)
+  | inr not_here ↦ any_tail (λ s. In s x) s sets (in_some sets x (All-tail IsSet s sets are) (rw not_here at test))
 ]
 
-some_in : (sets : List Pattern) (x : ℕ) → All IsSet sets → x < 2 ^ 64 → InSome sets x → list_any (λ s. is_in s x) sets ≡ true
-some_in [] x are fits h = absurd (any_none (λ s. In s x) h)
-some_in (s ∷ sets) x are fits h = elim (any_cases (λ s. In s x) s sets h) [
-  | inl here ↦ let t : is_in s x ≡ true = is_in_from s x (All-head IsSet s sets are) fits here in rw t refl
-  | inr later ↦ let t : list_any (λ s. is_in s x) sets ≡ true = some_in sets x (All-tail IsSet s sets are) fits later in grind arith
+some_in : (sets : List Pattern) (x : ℕ) → All IsSet sets → InSome sets x → list_any (λ s. is_in s x) sets ≡ true
+some_in [] x are h = absurd (any_none (λ s. In s x) h)
+some_in (s ∷ sets) x are h = elim (any_cases (λ s. In s x) s sets h) [
+  | inl here ↦ let t : is_in s x ≡ true = is_in_from s x (All-head IsSet s sets are) here in rw t refl
+  | inr later ↦ let t : list_any (λ s. is_in s x) sets ≡ true = some_in sets x (All-tail IsSet s sets are) later in grind arith
 ]
 
 -- the owner among slaves that are counted from a first place
@@ -59,14 +59,14 @@ by_head : (start : ℕ) (slave : Slave) (slaves : List Slave) (x : ℕ) (own : B
 by_head start slave slaves x true has hasnt h = (0, omega arith, (slave, refl, has refl), λ earlier below _. absurd (omega arith))
 by_head start slave slaves x false has hasnt h = later start slave slaves x (owner_from (start + 1) slaves x) (hasnt refl) h
 
-owned_from : (start : ℕ) (slaves : List Slave) (x : ℕ) → HaveSets slaves → x < 2 ^ 64 → IsFrom start slaves x (owner_from start slaves x)
-owned_from start [] x are fits = λ place (s, is, owns). absurd (grind arith)
-owned_from start (slave ∷ slaves) x are fits =
+owned_from : (start : ℕ) (slaves : List Slave) (x : ℕ) → HaveSets slaves → IsFrom start slaves x (owner_from start slaves x)
+owned_from start [] x are = λ place (s, is, owns). absurd (grind arith)
+owned_from start (slave ∷ slaves) x are =
     let sets : All IsSet slave.addresses = All-head (λ (s : Slave). All IsSet s.addresses) slave slaves are in
     let rest : HaveSets slaves = All-tail (λ (s : Slave). All IsSet s.addresses) slave slaves are in
     let hasnt : holds slave x ≡ false → InSome slave.addresses x → ⊥ =
-    λ none some. let t : list_any (λ s. is_in s x) slave.addresses ≡ true = some_in slave.addresses x sets fits some in absurd (cc) in
-    by_head start slave slaves x (holds slave x) (in_some slave.addresses x sets fits) hasnt (owned_from (start + 1) slaves x rest fits)
+    λ none some. let t : list_any (λ s. is_in s x) slave.addresses ≡ true = some_in slave.addresses x sets some in absurd (cc) in
+    by_head start slave slaves x (holds slave x) (in_some slave.addresses x sets) hasnt (owned_from (start + 1) slaves x rest)
 
 from_zero : (slaves : List Slave) (x : ℕ) (answer : Option ℕ) → IsFrom 0 slaves x answer → IsOwner slaves x answer
 from_zero slaves x None h = h
@@ -75,4 +75,4 @@ from_zero slaves x (Some place) (at, e, owns, first) =
     subst (λ (p : ℕ). Owns slaves p x × ((earlier : ℕ) → earlier < p → Owns slaves earlier x → ⊥)) same (owns, first)
 
 pub owners : OwnersByMembers
-owners slaves x are fits = from_zero slaves x (owner slaves x) (owned_from 0 slaves x are fits)
+owners slaves x are = from_zero slaves x (owner slaves x) (owned_from 0 slaves x are)

@@ -7,7 +7,7 @@ abbrev pub is_width : ℕ → Bool
 is_width bytes = bytes == 1 || bytes == 2 || bytes == 4 || bytes == 8
 
 -- a fragmenter takes two arguments, the bytes of a piece and of the largest transfer: powers of two in order, at most
--- 256. They are seen as the sizes from the one to the other.
+-- 256. They are seen as the sizes from the one to the other: `min` is a piece, and `max` the largest transfer.
 abbrev pub fragment_arguments : List ℕ → Option SizeRange
 fragment_arguments [] = None
 fragment_arguments (piece ∷ []) = None

@@ -24,8 +24,8 @@ is_same_slave s t = s.node == t.node && s.port == t.port && all_zip is_same_set 
 
 -- ---- supports: the in edge promises no more than the out edge
 
--- sizes that are cut: those up to a piece go on as they are, and larger ones as pieces. The pieces are the sizes from 1
--- to a piece.
+-- sizes that are cut: those up to a piece go on as they are, and larger ones as whole pieces. `pieces` are the sizes
+-- that need no cutting, from 1 to that of a piece.
 abbrev pub fits_pieces : SizeRange → SizeRange → SizeRange → Bool
 fits_pieces pieces s t = is_within (meet s pieces) t && (nat_le s.max pieces.max || has_size t pieces.max)
 

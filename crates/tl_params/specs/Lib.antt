@@ -1,7 +1,12 @@
+pub mod Aligned
 pub mod Arguments
 pub mod Carried
+pub mod Codes
+pub mod CodesLaw
+pub mod JoinedOwners
 pub mod Operations
 pub mod OwnerLaw
 pub mod Owners
 pub mod CarriedLaw
 pub mod Apart
+pub mod Transfers

@@ -1,5 +1,5 @@
 -- The sizes of operations, and the templates of nodes.
-use Rattle.std.specs.Prelude.{ℕ, ◌≤◌, max, Bool, true, false}
+use Rattle.std.specs.Prelude.{ℕ, ◌≡◌, ◌≤◌, max, Bool, true, false}
 use Rattle.dip_sets.specs.SizeRanges.{SizeRange}
 use Rattle.tl_params.specs.declared.ops.Op.{Op}
 use Rattle.tl_params.specs.declared.ops.Op.TheVariants.{PutFull, PutPartial, Arithmetic, Logical, Get, Intent}
@@ -23,9 +23,10 @@ largest ops =
     (max (max ops.get.max (max ops.put_full.max ops.put_partial.max)) (max ops.arithmetic.max ops.logical.max))
     ops.intent.max
 
--- no operation has a greater size
-abbrev pub IsGreatest : Ops → ℕ → Type 0
-IsGreatest ops bytes = (op : Op) → (sizes_of ops op).max ≤ bytes
+-- a size is the largest of all operations: none has a larger one, and some operation has it; 0 where none has any
+pub record IsLargest (ops : Ops) (bytes : ℕ) : Type 0 where
+  pub bound : (op : Op) → (sizes_of ops op).max ≤ bytes
+  pub attained : (op : Op) × ((sizes_of ops op).max ≡ bytes)
 
 -- all inputs and outputs of a nexus belong together; those of another node in pairs
 abbrev pub is_nexus : Template → Bool

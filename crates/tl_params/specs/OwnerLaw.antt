@@ -1,5 +1,5 @@
 -- What the owner of an address means: the slave one of whose sets has the address.
-use Rattle.std.specs.Prelude.{ℕ, ◌≡◌, ◌<◌, ◌^◌, List, All, Option, Some, None, slice_get}
+use Rattle.std.specs.Prelude.{ℕ, ◌≡◌, ◌<◌, List, All, Option, Some, None, slice_get}
 use Rattle.dip_sets.specs.Sets.{IsSet, InSome}
 use Rattle.tl_params.specs.declared.ports.Slave.{Slave}
 use Rattle.tl_params.specs.Owners.{owner}
@@ -18,8 +18,6 @@ IsOwner slaves address (Some place) =
     Owns slaves place address × ((earlier : ℕ) → earlier < place → Owns slaves earlier address → ⊥)
 IsOwner slaves address None = (place : ℕ) → Owns slaves place address → ⊥
 
--- what is computed as the owner of an address is it
+-- what is computed as the owner of an address is it, for every number as an address
 abbrev pub OwnersByMembers : Type 0
-OwnersByMembers =
-    (slaves : List Slave) (address : ℕ) → HaveSets slaves → address < 2 ^ 64
-    → IsOwner slaves address (owner slaves address)
+OwnersByMembers = (slaves : List Slave) (address : ℕ) → HaveSets slaves → IsOwner slaves address (owner slaves address)

@@ -1,5 +1,5 @@
 -- Who answers an address, and which ids a port's masters have.
-use Rattle.std.specs.Prelude.{ℕ, ◌+◌, List, [], ◌∷◌, ◌++◌, Bool, cond, max, Option, Some, None}
+use Rattle.std.specs.Prelude.{ℕ, ◌≡◌, ◌≤◌, ◌⊎◌, ◌+◌, All, Any, List, [], ◌∷◌, ◌++◌, Bool, cond, max, Option, Some, None}
 use Rattle.std.specs.List.{list_any}
 use Rattle.dip_sets.specs.Sets.{Pattern, is_in}
 use Rattle.tl_params.specs.declared.ports.Master.{Master}
@@ -28,3 +28,8 @@ sets_of (slave ∷ slaves) = slave.addresses ++ sets_of slaves
 abbrev pub largest_end : List Master → ℕ
 largest_end [] = 0
 largest_end (master ∷ masters) = max master.ids.end (largest_end masters)
+
+-- no master's ids end later, and some master's end there; 0 where there is no master
+pub record IsLargestEnd (masters : List Master) (end : ℕ) : Type 0 where
+  pub bound : All (λ (master : Master). master.ids.end ≤ end) masters
+  pub attained : ((masters ≡ []) × (end ≡ 0)) ⊎ Any (λ (master : Master). master.ids.end ≡ end) masters

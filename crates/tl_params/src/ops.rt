@@ -53,10 +53,9 @@ impl Ops {
     }
 
     /// The greatest size of any operation in bytes, 0 where all are none.
-    #[tactic(auto, using(crate::proofs::Greatest::largest_is))]
     pub fn largest(&self) -> u32
         ensures value { result ≡ spec.largest self.now }
-        ensures greatest { spec.IsGreatest self.now result }
+        ensures largest { spec.IsLargest self.now result }
     {
         let puts = self.put_full.max().max(self.put_partial.max());
         let atomics = self.arithmetic.max().max(self.logical.max());

@@ -1,6 +1,6 @@
-ghost use Rattle.std.specs.Prelude.{◌≡◌, ◌↔◌, ◌≤◌, IsTrue, IfOk, All};
-ghost use Rattle.tl_params.specs.CarriedLaw.{CarriedLaw};
-ghost use Rattle.tl_params.specs.OwnerLaw.{OwnersByMembers};
+ghost use Rattle.std.specs.Prelude.{◌≡◌, ◌↔◌, IsTrue, IfOk};
+ghost use Rattle.dip_sets.specs.Sets.{InSome};
+ghost use Rattle.tl_params.specs.OwnerLaw.{IsOwner};
 ghost use Rattle.tl_params.specs.Owners as spec;
 
 use crate::Ops;
@@ -138,10 +138,10 @@ impl Duplicate for UpPort {
 }
 
 /// The greatest end of the masters' id ranges: one more than the greatest id. 0 where there is no master.
-#[tactic(auto, using(crate::proofs::Greatest::ends_at_most))]
+#[tactic(auto, using(crate::proofs::Largest::largest_end_is))]
 pub fn largest_end(port: &DownPort) -> u32
     ensures value { result ≡ spec.largest_end port.now.masters }
-    ensures greatest { All (λ m. m.ids.end ≤ result) port.now.masters }
+    ensures largest { spec.IsLargestEnd port.now.masters result }
 {
     let mut largest = 0;
     for master in port.masters.as_slice() {
@@ -152,20 +152,23 @@ pub fn largest_end(port: &DownPort) -> u32
 
 // Whether one of the slave's sets has the address.
 fn holds(slave: &Slave, address: u64) -> bool
-    ensures { result ≡ spec.holds slave.now address }
+    ensures members { IsTrue result ↔ InSome slave.now.addresses address }
+    ensures test { result ≡ spec.holds slave.now address }
 {
-    slave
-        .addresses
-        .as_slice()
-        .iter()
-        .any(|set| set.contains(address))
+    for set in slave.addresses.as_slice() {
+        if set.contains(address) {
+            return true;
+        }
+    }
+    false
 }
 
-/// The place of the first slave one of whose sets holds the address; `None` exactly where none does.
-pub fn owner(port: &UpPort, address: u64) -> Option<usize>
-    ensures { result ≡ spec.owner port.now.slaves address }
+/// The place of the first of some slaves one of whose sets has the address; `None` exactly where none does.
+pub fn owner_among(slaves: &[Slave], address: u64) -> Option<usize>
+    ensures members { IsOwner slaves.now address result }
+    ensures value { result ≡ spec.owner slaves.now address }
 {
-    for (place, slave) in port.slaves.as_slice().iter().enumerate() {
+    for (place, slave) in slaves.iter().enumerate() {
         if holds(slave, address) {
             return Some(place);
         }
@@ -173,14 +176,11 @@ pub fn owner(port: &UpPort, address: u64) -> Option<usize>
     None
 }
 
-/// The owner of an address is the slave one of whose sets has it: an answered place is the first at which a
-/// slave does, and where none is answered no slave does.
-pub fn owner_law()
-    ensures { OwnersByMembers }
-{}
-
-/// What it means that an edge carries what another one shows: the same slaves with the same addresses, and
-/// each size of each operation, whole or, for gets and puts before a fragmenter, in pieces.
-pub fn carried_law()
-    ensures { CarriedLaw }
-{}
+/// The place of the first of a port's slaves one of whose sets has the address; `None` exactly where none
+/// does.
+pub fn owner(port: &UpPort, address: u64) -> Option<usize>
+    ensures members { IsOwner port.now.slaves address result }
+    ensures value { result ≡ spec.owner port.now.slaves address }
+{
+    owner_among(port.slaves.as_slice(), address)
+}

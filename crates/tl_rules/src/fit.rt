@@ -4,11 +4,13 @@ ghost use Rattle.tl_rules.specs.Fits as spec;
 ghost use Rattle.tl_params.specs.Arguments.{fragment_arguments, shrink_argument};
 
 use crate::fit_xbar::{inputs_fit, outputs_fit};
-use crate::fragmenter::{fragment_arguments, up_to_piece};
-use crate::shrinker::shrink_argument;
+use crate::fragmenter::up_to_piece;
 use dip_lists::Same;
 use dip_sets::Sizes;
-use tl_params::{Args, DownPort, Master, Ops, Slave, Template, UpPort, is_width};
+use tl_params::{
+    Args, DownPort, Master, Ops, Slave, Template, UpPort, fragment_arguments, is_width,
+    shrink_argument,
+};
 
 // Sizes that are cut into pieces fit those behind the cut.
 fn fits_pieces(pieces: &Sizes, sizes: &Sizes, real: &Sizes) -> bool

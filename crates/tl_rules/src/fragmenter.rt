@@ -1,4 +1,4 @@
-ghost use Rattle.std.specs.Prelude.{◌≡◌, map, IfOk, IfSome};
+ghost use Rattle.std.specs.Prelude.{◌≡◌, map, IfOk};
 ghost use Rattle.dip_rule.specs.Stated.{Answers};
 ghost use Rattle.dip_sets.specs.SizeRanges.{size_range};
 ghost use Rattle.tl_params.specs.Arguments as arguments;
@@ -9,18 +9,7 @@ use dip_lists::{Duplicate, Items, Memory};
 use dip_rule::RuleFault;
 use dip_sets::Sizes;
 use std::alloc::Global;
-use tl_params::{Args, DownPort, Master, Masters, Ops, Slave, Slaves, UpPort};
-
-/// The sizes from a piece to the largest transfer, where the arguments state them.
-pub fn fragment_arguments(args: &Args) -> Option<Sizes>
-    ensures value { result ≡ arguments.fragment_arguments args.now }
-    ensures sizes { IfSome result arguments.AreFragments }
-{
-    match args.as_slice() {
-        [piece, largest] => Sizes::new(*piece, *largest),
-        _ => None,
-    }
-}
+use tl_params::{Args, DownPort, Master, Masters, Ops, Slave, Slaves, UpPort, fragment_arguments};
 
 /// The sizes that need no cutting: those from 1 to a piece.
 pub fn up_to_piece(fragments: &Sizes) -> Sizes

@@ -1,6 +1,5 @@
 ghost use Rattle.std.specs.Prelude.{◌≡◌};
 ghost use Rattle.dip_rule.specs.Stated.{Answers};
-ghost use Rattle.tl_params.specs.Arguments as arguments;
 ghost use Rattle.tl_rules.specs.Shrinks as spec;
 
 use crate::ports::only;
@@ -8,17 +7,7 @@ use dip_lists::Items;
 use dip_rule::RuleFault;
 use dip_sets::IdRange;
 use std::alloc::Global;
-use tl_params::{Args, DownPort, Master, Ops, UpPort, copy_up};
-
-/// The only argument, where it is a number of ids from 1 to 64.
-pub fn shrink_argument(args: &Args) -> Option<u32>
-    ensures { result ≡ arguments.shrink_argument args.now }
-{
-    match args.as_slice() {
-        [ids] if 1 <= *ids && *ids <= 64 => Some(*ids),
-        _ => None,
-    }
-}
+use tl_params::{Args, DownPort, Master, Ops, UpPort, copy_up, shrink_argument};
 
 // Of each operation the least range that has the sizes of both.
 fn cover_ops(a: &Ops, b: &Ops) -> Ops

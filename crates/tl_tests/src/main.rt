@@ -3,6 +3,7 @@
 #![tactic(auto)]
 
 mod beats;
+mod codes;
 mod made;
 mod messages;
 mod ports;
@@ -21,6 +22,11 @@ fn answer(alloc: Global, word: &str, rest: &str, text: &mut String) -> Result<()
         "answers" => ports::answers(text),
         "largest" => ports::largest(text),
         "owner" => ports::owners(alloc, rest, text),
+        "codes" => codes::codes(text),
+        "ops" => codes::ops(rest, text),
+        "acks" => codes::acks(rest, text),
+        "fragments" => codes::fragments(alloc, rest, text),
+        "shrinks" => codes::shrinks(alloc, rest, text),
         "bundle" => ports::bundle(alloc, rest, text),
         "copies" => ports::copies(alloc, text),
         "count" => beats::count(rest, text),

@@ -86,12 +86,13 @@ pub fn largest(text: &mut String) -> Result<(), Memory> {
     Ok(())
 }
 
-// Three slaves, of which the last two share addresses.
+// Four slaves, of which the second and the third share addresses, and the last one's set has a hole.
 fn slaves(alloc: Global) -> Result<Slaves, Memory> {
     let mut slaves = Items::new(alloc);
     slaves.push(slave_of(alloc, 0x8000_0000, 0xffff, 64)?)?;
     slaves.push(slave_of(alloc, 0x1000_0000, 0xfff, 64)?)?;
     slaves.push(slave_of(alloc, 0x1000_0000, 0x1fff, 64)?)?;
+    slaves.push(slave_of(alloc, 0x2000_0000, 0x10ff, 64)?)?;
     Ok(slaves)
 }
 

@@ -4,4 +4,4 @@ use Rattle.dip_sets.proofs.set.AddressSet.contains.Goals as goal
 pub returns-clause-members : goal.returns-clause-members
 returns-clause-members c =
     rw (← c.self.view_is)
-    (tested _ _ (contains_is _ _ _ c.self.invariant.0 c.self.invariant.1 c.self.invariant.2 c.ranges.x.fits))
+    (tested _ _ (contains_is _ _ _ c.self.invariant.0))

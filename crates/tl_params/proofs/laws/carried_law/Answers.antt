@@ -1,5 +1,5 @@
 use Rattle.tl_params.proofs.Carrying.{carried}
-use Rattle.tl_params.proofs.ports.carried_law.Goals as goal
+use Rattle.tl_params.proofs.laws.carried_law.Goals as goal
 
 pub returns : goal.returns
 returns c = carried

@@ -1,6 +1,0 @@
-use Rattle.std.proofs.Common.{◌≡◌, drop}
-use Rattle.tl_params.specs.Owners.{owner_from}
-use Rattle.tl_params.proofs.ports.owner.Given as goal
-
-abbrev pub invariant-loop-place : goal.invariant-loop-place
-invariant-loop-place l = owner_from l.place (drop l.place l.port.slaves) l.address ≡ owner_from 0 l.port.slaves l.address
