@@ -1,5 +1,5 @@
 -- What the passes give is the only solution, and where one stops it is at the first refusal.
-use Rattle.std.proofs.Common.{◌≡◌, ℕ, zero, suc, ◌+◌, ◌<◌, Bool, true, false, not, cond, List, [], ◌∷◌, ◌++◌, length, replicate, Some, None, Ok, Err, refl, sym, ap, ◌∙◌, subst, arith, ◌⊎◌, inl, inr}
+use Rattle.std.proofs.Common.{◌≡◌, ℕ, zero, suc, ◌+◌, ◌<◌, Bool, true, false, not, cond, List, [], ◌∷◌, ◌++◌, length, replicate, Some, None, Result, Ok, Err, refl, sym, ap, ◌∙◌, subst, arith, ◌⊎◌, inl, inr}
 use Rattle.std.specs.Prelude.{slice_get, ◌==◌}
 use Rattle.std.proofs.lemmas.Bool.{eqb-true}
 use Rattle.std.proofs.lemmas.Option.{slice_get_within, get_or_from_slice_get}
@@ -18,12 +18,13 @@ use Rattle.tl_params.specs.declared.ports.DownPort.{DownPort}
 use Rattle.tl_params.specs.declared.ports.UpPort.{UpPort}
 use Rattle.dip_negotiate.specs.declared.steps.End.{End}
 use Rattle.dip_negotiate.specs.declared.steps.Step.{Step}
-use Rattle.dip_negotiate.specs.Passes.{Pass, Refusal, run, Holds, HoldAt, OnlySolves, RefusesFirst}
+use Rattle.dip_negotiate.specs.Passes.{Pass, Refusal, run, stated, Holds, HoldAt, Solves, OnlySolves, RefusesFirst}
 use Rattle.dip_negotiate.specs.Places.{source_end, sink_end, belongs, asked, steps_at, steps_down, steps_up}
 use Rattle.dip_negotiate.specs.Negotiation.{IsNegotiable, NegotiationLaw, down_pass, up_pass, downs, ups, no_masters, no_slaves}
-use Rattle.dip_negotiate.proofs.Lookups.{In, same_ports}
+use Rattle.dip_negotiate.specs.Demands.{In}
+use Rattle.dip_negotiate.proofs.Lookups.{same_ports}
 use Rattle.dip_negotiate.proofs.Runs.{InOrder, Within, run_done, only, refuses_first}
-use Rattle.dip_negotiate.proofs.Taken.{IsStep, at_is, known_step}
+use Rattle.dip_negotiate.proofs.Taken.{IsStep, at_is, known_step, step_left, step_right}
 use Rattle.dip_negotiate.proofs.Ordered.{down_order, up_order, step_down, step_up}
 
 -- ---- from steps to edges and back
@@ -42,10 +43,14 @@ hold_one pass ports (s ∷ steps) x edge h (inl q) =
     subst (λ y. Holds pass ports y edge) (sym q.0) (subst (λ (d : Edge). Holds pass ports s.number d) (sym q.1) h.0)
 hold_one pass ports (s ∷ steps) x edge h (inr i) = hold_one pass ports steps x edge h.1 i
 
+not_both : {P : Type 0} (answer : Result P ℕ) (port : P) (number : ℕ) → answer ≡ Ok port → answer ≡ Err number → ⊥
+not_both (Ok q) port number a b = absurd cc
+not_both (Err q) port number a b = absurd cc
+
 -- steps in order that are all edges, each with its number
-record Covers (edges : List Edge) (steps : List Step) : Type 0 where
-  sound : (x : ℕ) (edge : Edge) → IsStep x edge steps → slice_get edges x ≡ Some edge
-  whole : (x : ℕ) (edge : Edge) → slice_get edges x ≡ Some edge → IsStep x edge steps
+pub record Covers (edges : List Edge) (steps : List Step) : Type 0 where
+  pub sound : (x : ℕ) (edge : Edge) → IsStep x edge steps → slice_get edges x ≡ Some edge
+  pub whole : (x : ℕ) (edge : Edge) → slice_get edges x ≡ Some edge → IsStep x edge steps
 
 within_edges : (edges : List Edge) (steps : List Step) → Covers edges steps → Within (length edges) steps
 within_edges edges steps c = within_steps (length edges) steps (λ x edge i. slice_get_within edges x edge (c.sound x edge i))
@@ -79,6 +84,18 @@ module _ {P : Type 0} (pass : Pass P) (blank : P) (edges : List Edge) (steps : L
   first_refused refused e =
       refuses_first pass steps (replicate (length edges) blank) refused order
       (subst (λ n. Within n steps) (sym (length-replicate (length edges) blank)) (within_edges edges steps covers)) e
+
+  -- where one is refused nothing solves
+  unsolved : (refused : Refusal) → run pass (replicate (length edges) blank) steps ≡ Err refused → (ports : List P) → Solves pass edges ports → ⊥
+  unsolved refused e ports s =
+      let f = first_refused refused e in
+      let whole : (x : ℕ) (edge : Edge) → IsStep x edge (f.front ++ record { number = f.number; edge = refused.edge } ∷ f.back) → slice_get edges x ≡ Some edge =
+      λ x edge i. covers.sound x edge (subst (λ ss. IsStep x edge ss) (sym f.split) i) in
+      let here = s.holds f.number refused.edge (whole f.number refused.edge
+      (step_right f.number refused.edge f.front (record { number = f.number; edge = refused.edge } ∷ f.back) (inl (refl, refl)))) in
+      let before = hold_all pass ports f.front (λ x edge i. s.holds x edge (whole x edge
+      (step_left x edge f.front (record { number = f.number; edge = refused.edge } ∷ f.back) i))) in
+      not_both (stated pass ports refused.edge) here.port refused.number here.is (f.refuses ports before)
 
 split_steps : (x : ℕ) (edge : Edge) (a b : List Step) → IsStep x edge (a ++ b) → IsStep x edge a ⊎ IsStep x edge b
 split_steps x edge [] b i = inr i
@@ -171,24 +188,24 @@ module _ (design : Design) (edges : List Edge) (n : IsNegotiable design edges) w
   stand : StandBehind design.binds [] (canonical_order design)
   stand = each_stands_behind design
 
-  covers_down : Covers edges (steps_down (canonical_order design) edges)
+  pub covers_down : Covers edges (steps_down (canonical_order design) edges)
   covers_down = record {
     sound = sound_down edges (canonical_order design);
     whole = λ x edge e. step_down (canonical_order design) edges x edge e (all_listed edge.from (nodes_exist x edge e).1);
   }
 
-  covers_up : Covers edges (steps_up (canonical_order design) edges)
+  pub covers_up : Covers edges (steps_up (canonical_order design) edges)
   covers_up = record {
     sound = sound_up edges (canonical_order design);
     whole = λ x edge e. step_up (canonical_order design) edges x edge e (all_listed edge.to (nodes_exist x edge e).0);
   }
 
   module _ (rules : List StatedRule) where
-    order_down : InOrder (down_pass rules design.nodes edges).asks [] (steps_down (canonical_order design) edges)
+    pub order_down : InOrder (down_pass rules design.nodes edges).asks [] (steps_down (canonical_order design) edges)
     order_down = down_order design.binds edges follows (down_pass rules design.nodes edges).asks (reaches rules design.nodes edges source_end sink_end)
         [] (canonical_order design) [] (record { has = λ x edge e p. absurd cc; only = λ x i. absurd i }) stand
 
-    order_up : InOrder (up_pass rules design.nodes edges).asks [] (steps_up (canonical_order design) edges)
+    pub order_up : InOrder (up_pass rules design.nodes edges).asks [] (steps_up (canonical_order design) edges)
     order_up = (up_order design.binds edges follows (up_pass rules design.nodes edges).asks (reaches rules design.nodes edges sink_end source_end)
         [] (canonical_order design) stand (λ x edge e h. absurd cc) (λ x edge e. all_listed edge.to (nodes_exist x edge e).0)).order
 
@@ -204,10 +221,18 @@ module _ (design : Design) (edges : List Edge) (n : IsNegotiable design edges) w
     up_stops : (refused : Refusal) → ups rules design edges ≡ Err refused → RefusesFirst (up_pass rules design.nodes edges) (steps_up (canonical_order design) edges) refused
     up_stops = first_refused (up_pass rules design.nodes edges) no_slaves edges (steps_up (canonical_order design) edges) order_up covers_up
 
+    down_none : (refused : Refusal) → downs rules design edges ≡ Err refused → (ports : List DownPort) → Solves (down_pass rules design.nodes edges) edges ports → ⊥
+    down_none = unsolved (down_pass rules design.nodes edges) no_masters edges (steps_down (canonical_order design) edges) order_down covers_down
+
+    up_none : (refused : Refusal) → ups rules design edges ≡ Err refused → (ports : List UpPort) → Solves (up_pass rules design.nodes edges) edges ports → ⊥
+    up_none = unsolved (up_pass rules design.nodes edges) no_slaves edges (steps_up (canonical_order design) edges) order_up covers_up
+
 pub negotiation : NegotiationLaw
 negotiation = record {
   down = λ rules design edges n. down_is design edges n rules;
   up = λ rules design edges n. up_is design edges n rules;
   down_refused = λ rules design edges n. down_stops design edges n rules;
   up_refused = λ rules design edges n. up_stops design edges n rules;
+  down_unsolved = λ rules design edges n. down_none design edges n rules;
+  up_unsolved = λ rules design edges n. up_none design edges n rules;
 }

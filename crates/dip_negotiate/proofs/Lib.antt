@@ -5,3 +5,12 @@ pub mod Runs
 pub mod Taken
 pub mod Ordered
 pub mod Law
+pub mod Seen
+pub mod Marks
+pub mod Needed
+pub mod Asked
+pub mod Only
+pub mod Passing
+pub mod Shared
+pub mod Turned
+pub mod Lazily

@@ -1,14 +1,10 @@
 -- Ports put in place and read again.
-use Rattle.std.proofs.Common.{◌≡◌, ◌≢◌, ℕ, zero, suc, ◌<◌, List, [], ◌∷◌, length, Some, refl, ap, ◌∙◌, arith, ◌⊎◌, inl, inr}
+use Rattle.std.proofs.Common.{◌≡◌, ◌≢◌, ℕ, zero, suc, ◌<◌, List, [], ◌∷◌, length, Some, refl, ap, ◌∙◌, arith, inl, inr}
 use Rattle.std.specs.Prelude.{slice_get, slice_set, get_or}
 use Rattle.std.proofs.lemmas.List.{same_lists}
 use Rattle.std.proofs.lemmas.Option.{get_or_from_slice_get, slice_get-get_or}
 use Rattle.dip_negotiate.specs.Passes.{beside, picked}
-
--- membership
-abbrev pub In : ℕ → List ℕ → Type 0
-In x [] = ⊥
-In x (y ∷ ys) = (x ≡ y) ⊎ In x ys
+use Rattle.dip_negotiate.specs.Demands.{In}
 
 pub get_set : {P : Type 0} (ports : List P) (number : ℕ) (port : P) → number < length ports → slice_get (slice_set ports number port) number ≡ Some port
 get_set [] number port h = absurd (omega arith)

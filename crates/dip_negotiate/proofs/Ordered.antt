@@ -11,7 +11,7 @@ use Rattle.dip_graph.specs.declared.edges.Edge.{Edge}
 use Rattle.dip_negotiate.specs.Places.{source_end, sink_end, steps_at, steps_down, steps_up}
 use Rattle.dip_lists.proofs.Tests.{both}
 use Rattle.dip_graph.specs.Edges.{FollowsBind}
-use Rattle.dip_negotiate.proofs.Lookups.{In}
+use Rattle.dip_negotiate.specs.Demands.{In}
 use Rattle.dip_negotiate.proofs.Runs.{InOrder, known_after}
 use Rattle.dip_negotiate.proofs.Taken.{Knows, IsStep, at_node, knows_more, known_joined, order_joined, step_left, step_right, at_has, yes_or_no}
 

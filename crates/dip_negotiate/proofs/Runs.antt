@@ -5,7 +5,8 @@ use Rattle.std.proofs.lemmas.List.{length-set}
 use Rattle.dip_graph.specs.declared.edges.Edge.{Edge}
 use Rattle.dip_negotiate.specs.declared.steps.Step.{Step}
 use Rattle.dip_negotiate.specs.Passes.{Pass, stated, Refusal, refusal, go_on, run, HoldAt, RefusesFirst}
-use Rattle.dip_negotiate.proofs.Lookups.{In, get_set, get_set_other, same_picked}
+use Rattle.dip_negotiate.specs.Demands.{In}
+use Rattle.dip_negotiate.proofs.Lookups.{get_set, get_set_other, same_picked}
 
 -- each step asks edges that are known, and makes the port of one that isn't
 abbrev pub InOrder : (Edge → List ℕ) → List ℕ → List Step → Type 0
@@ -131,6 +132,11 @@ front_within : (count : ℕ) (a b : List Step) → Within count (a ++ b) → Wit
 front_within count [] b w = tt
 front_within count (s ∷ a) b w = (w.0, front_within count a b w.1)
 
+-- what a step after others asks is known
+asks_known : (asks : Edge → List ℕ) (known : List ℕ) (a : List Step) (s : Step) (b : List Step) → InOrder asks known (a ++ s ∷ b) → (x : ℕ) → In x (asks s.edge) → In x (known_after known a)
+asks_known asks known [] s b o = o.0
+asks_known asks known (t ∷ a) s b o = asks_known asks (t.number ∷ known) a s b o.2
+
 pub refuses_first : {P : Type 0} (pass : Pass P) (steps : List Step) (ports : List P) (first : Refusal) → InOrder pass.asks [] steps → Within (length ports) steps
     → run pass ports steps ≡ Err first → RefusesFirst pass steps first
 refuses_first pass steps ports first o w e =
@@ -145,5 +151,14 @@ refuses_first pass steps ports first o w e =
           (front_order pass.asks [] s.front (record { number = s.number; edge = first.edge } ∷ s.back) (subst (λ ss. InOrder pass.asks [] ss) s.split o))
           (front_within (length ports) s.front (record { number = s.number; edge = first.edge } ∷ s.back) (subst (λ ss. Within (length ports) ss) s.split w))
           s.gone).holds;
-      refuses = s.refuses;
+      refuses = λ others h.
+          let done = (run_done pass [] s.front ports s.last
+          (front_order pass.asks [] s.front (record { number = s.number; edge = first.edge } ∷ s.back) (subst (λ ss. InOrder pass.asks [] ss) s.split o))
+          (front_within (length ports) s.front (record { number = s.number; edge = first.edge } ∷ s.back) (subst (λ ss. Within (length ports) ss) s.split w))
+          s.gone) in
+          let agree = only pass [] s.front others s.last
+          (front_order pass.asks [] s.front (record { number = s.number; edge = first.edge } ∷ s.back) (subst (λ ss. InOrder pass.asks [] ss) s.split o))
+          (λ x i. absurd i) h done.holds in
+          ap (pass.says first.edge) (same_picked others s.last (pass.asks first.edge) (λ x i. agree x
+          (asks_known pass.asks [] s.front (record { number = s.number; edge = first.edge }) s.back (subst (λ ss. InOrder pass.asks [] ss) s.split o) x i))) ∙ s.refuses;
     }

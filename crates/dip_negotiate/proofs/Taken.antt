@@ -6,7 +6,7 @@ use Rattle.dip_graph.specs.declared.edges.Edge.{Edge}
 use Rattle.dip_negotiate.specs.declared.steps.End.{End}
 use Rattle.dip_negotiate.specs.declared.steps.Step.{Step}
 use Rattle.dip_negotiate.specs.Places.{step, steps_at}
-use Rattle.dip_negotiate.proofs.Lookups.{In}
+use Rattle.dip_negotiate.specs.Demands.{In}
 use Rattle.dip_negotiate.proofs.Runs.{InOrder, known_after}
 
 -- an edge with this number is a step

@@ -1,3 +1,5 @@
 pub mod Passes
 pub mod Places
 pub mod Negotiation
+pub mod Demands
+pub mod Turns

@@ -19,7 +19,7 @@ use Rattle.dip_negotiate.specs.declared.steps.End.{End}
 use Rattle.dip_negotiate.specs.declared.solution.Solution.{Solution}
 use Rattle.dip_negotiate.specs.declared.solution.NegFault.{NegFault}
 use Rattle.dip_negotiate.specs.declared.solution.NegFault.TheVariants.{DownRefused, UpRefused, Memory}
-use Rattle.dip_negotiate.specs.Passes.{Pass, Refusal, run, OnlySolves, RefusesFirst}
+use Rattle.dip_negotiate.specs.Passes.{Pass, Refusal, run, Solves, OnlySolves, RefusesFirst}
 use Rattle.dip_negotiate.specs.Places.{source_end, sink_end, asked, steps_down, steps_up}
 
 -- ---- what nodes state
@@ -144,7 +144,8 @@ pub record IsOnlySolution (rules : List StatedRule) (design : Design) (edges : L
   pub down : OnlySolves (down_pass rules design.nodes edges) edges solution.down
   pub up : OnlySolves (up_pass rules design.nodes edges) edges solution.up
 
--- where the passes end they give the only solution, and where one refuses it is the first refusal in its order
+-- where the passes end they give the only solution; where one refuses it is the first refusal in its order, and no
+-- ports solve
 pub record NegotiationLaw : Type 0 where
   pub down : (rules : List StatedRule) (design : Design) (edges : List Edge) → IsNegotiable design edges
       → (ports : List DownPort) → downs rules design edges ≡ Ok ports
@@ -158,3 +159,9 @@ pub record NegotiationLaw : Type 0 where
   pub up_refused : (rules : List StatedRule) (design : Design) (edges : List Edge) → IsNegotiable design edges
       → (refused : Refusal) → ups rules design edges ≡ Err refused
       → RefusesFirst (up_pass rules design.nodes edges) (steps_up (canonical_order design) edges) refused
+  pub down_unsolved : (rules : List StatedRule) (design : Design) (edges : List Edge) → IsNegotiable design edges
+      → (refused : Refusal) → downs rules design edges ≡ Err refused
+      → (ports : List DownPort) → Solves (down_pass rules design.nodes edges) edges ports → ⊥
+  pub up_unsolved : (rules : List StatedRule) (design : Design) (edges : List Edge) → IsNegotiable design edges
+      → (refused : Refusal) → ups rules design edges ≡ Err refused
+      → (ports : List UpPort) → Solves (up_pass rules design.nodes edges) edges ports → ⊥

@@ -2,8 +2,6 @@
 use Rattle.std.specs.Prelude.{ℕ, ◌≡◌, List, [], ◌∷◌, ◌++◌, length, Option, Some, None, Result, Ok, Err, slice_get, slice_set}
 use Rattle.dip_graph.specs.declared.edges.Edge.{Edge}
 use Rattle.dip_negotiate.specs.declared.steps.Step.{Step}
-use Rattle.dip_negotiate.specs.declared.pass.PassFault.{PassFault}
-use Rattle.dip_negotiate.specs.declared.pass.PassFault.TheVariants.{Refused, Memory}
 
 -- a port beside others, where there is one
 abbrev pub beside : {P : Type 0} → Option P → List P → List P
@@ -44,11 +42,6 @@ run pass ports [] = Ok ports
 run pass ports (step ∷ steps) =
     go_on step.edge (stated pass ports step.edge) (λ port. run pass (slice_set ports step.number port) steps)
 
--- the fault names the refused edge, or is want of memory
-abbrev pub IsPassFault : {P : Type 0} → Result (List P) Refusal → PassFault → Type 0
-IsPassFault result (Refused edge number) = result ≡ Err (refusal edge number)
-IsPassFault result Memory = Unit {0}
-
 -- The equation of an edge: its port is the one stated.
 pub record Holds {P : Type 0} (pass : Pass P) (ports : List P) (number : ℕ) (edge : Edge) : Type 0 where
   pub port : P
@@ -71,7 +64,7 @@ pub record OnlySolves {P : Type 0} (pass : Pass P) (edges : List Edge) (ports : 
   pub only : (others : List P) → Solves pass edges others → others ≡ ports
 
 -- The first of the steps that is refused: there are ports with which the equations of all steps before it hold, and
--- from these the port of its edge is refused.
+-- from all such ports the port of its edge is refused.
 pub record RefusesFirst {P : Type 0} (pass : Pass P) (steps : List Step) (first : Refusal) : Type 0 where
   pub front : List Step
   pub number : ℕ
@@ -79,4 +72,4 @@ pub record RefusesFirst {P : Type 0} (pass : Pass P) (steps : List Step) (first 
   pub split : steps ≡ front ++ record { number = number; edge = first.edge } ∷ back
   pub ports : List P
   pub before : HoldAt pass ports front
-  pub refuses : stated pass ports first.edge ≡ Err first.number
+  pub refuses : (others : List P) → HoldAt pass others front → stated pass others first.edge ≡ Err first.number

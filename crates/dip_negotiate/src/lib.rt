@@ -2,13 +2,20 @@
 #![tactic(auto)]
 
 mod asking;
+mod demands;
+mod kept;
 mod laws;
-mod pass;
+mod lazy;
+mod marking;
+mod negotiated;
 mod ports;
 mod solution;
 mod steps;
+mod turns;
 
 pub use laws::negotiation_law;
-pub use solution::{NegFault, Solution, negotiate};
-// The types of which the definitions of passes speak.
+pub use lazy::{Lazy, negotiate};
+pub use solution::{NegFault, Solution};
+// The types of which the definitions speak.
 pub use steps::{End, Step, Steps};
+pub use turns::Turns;
