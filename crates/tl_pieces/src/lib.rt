@@ -4,4 +4,4 @@
 
 mod laws;
 
-pub use laws::{cut_law, piece_beats_law, reply_law};
+pub use laws::{cut_law, ends_law, narrow_law, piece_beats_law, reply_law, wide_law};
