@@ -13,8 +13,8 @@ mod response;
 mod wires;
 
 pub use beat::{ABeat, ABeats, DBeat, DBeats, Event, History, Tag, What};
-pub use bundle::{Bundle, bundle_of};
-pub use lanes::active_lanes;
+pub use bundle::{Bundle, bundle_of, log_of};
+pub use lanes::{active_lanes, part};
 pub use laws::{
     active_law, bits_law, bundle_law, heads_law, join_law, lanes_law, legal_law, more_law, next_law,
     prefix_law, same_law, spelling_law, wires_law,

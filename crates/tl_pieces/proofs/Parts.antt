@@ -1,7 +1,7 @@
 -- Parts of lists, and the sizes of pieces.
 use Rattle.std.proofs.Common.{ℕ, zero, suc, ◌≡◌, ◌+◌, ◌*◌, ◌/◌, ◌%◌, ◌^◌, ◌-◌, ◌<◌, ◌≤◌, inl, inr, List, [], ◌∷◌, ◌++◌, length, take, drop, replicate, Bool, true, false, ◌&&◌, cond, nat_lt, lit<, ap, sym, ◌∙◌, refl, arith}
 use Rattle.std.specs.Int.{IsPowerOfTwo}
-use Rattle.std.proofs.Math.Nat.{mul-div_cancel_left, mod-mod_of_dvd, dvd-mul_right, add-mul-mod_self_right, mod-eq_of_lt, mul-le-mul_right}
+use Rattle.std.proofs.Math.Nat.{mul-div_cancel_left, mod-mod_of_dvd, dvd-mul_right, add-mul-mod_self_right, mod-eq_of_lt, mul-le-mul_right, mul-mod_right}
 use Rattle.std.proofs.lemmas.Bool.{and_parts, ltb-true}
 use Rattle.std.proofs.lemmas.Nat.{pow_pos, pow-add, row_fits}
 use Rattle.std.proofs.lemmas.List.{take-take, drop-take, drop-drop, length-take, length-drop, nil_from_length}
@@ -9,6 +9,7 @@ use Rattle.tl_edge.specs.declared.message.Request.{Request}
 use Rattle.tl_edge.specs.Bundles.{log_of}
 use Rattle.tl_edge.specs.Messages.{bytes_of}
 use Rattle.tl_edge.specs.Beats.{part}
+use Rattle.tl_edge.proofs.Reading.{multiples_apart}
 use Rattle.tl_edge.proofs.Widths.{log_of-pow, exponents-lt}
 use Rattle.tl_pieces.specs.Cutting.{may_be_cut, is_cut, piece_count}
 
@@ -77,3 +78,16 @@ aligned_piece most times address number some aligned =
     add-mul-mod_self_right address number most
     ∙ sym (mod-mod_of_dvd most address (dvd-mul_right most times))
     ∙ ap (λ (n : ℕ). n % most) aligned ∙ mod-eq_of_lt some
+
+-- the end of an aligned transfer is no greater than the greatest address
+pub offset_fits : (address size offset : ℕ) → size ≤ 8 → address % bytes_of size ≡ 0 → offset < bytes_of size → address < 2 ^ 64 → address + offset < 2 ^ 64
+offset_fits address size offset small aligned within fits =
+    let parts : 64 ≡ size + (64 - size) = omega (arith, small) in
+    let whole : 2 ^ 64 ≡ bytes_of size * 2 ^ (64 - size) = ap (λ (k : ℕ). 2 ^ k) parts ∙ pow-add 2 size (64 - size) in
+    let multiple : 2 ^ 64 % bytes_of size ≡ 0 = ap (λ (k : ℕ). k % bytes_of size) whole ∙ mul-mod_right (bytes_of size) (2 ^ (64 - size)) in
+    let end : address + bytes_of size ≤ 2 ^ 64 = multiples_apart (bytes_of size) address (2 ^ 64) (pow_pos size) aligned multiple fits in
+    omega (arith, within, end)
+
+-- a piece begins within the request
+pub piece_begins : (most : ℕ) (request : Request) (number : ℕ) → IsPowerOfTwo most → is_cut most request ≡ true → number < piece_count most request → number * most < bytes_of request.size
+piece_begins most request number size cuts below = omega (arith, piece_within most request number (whole_pieces most request size cuts) below, most_pos most size)
