@@ -2,6 +2,7 @@ pub mod Active
 pub mod Cuts
 pub mod Digits
 mod ExampleSound
+pub mod Fitting
 pub mod Greatest
 pub mod Heads
 pub mod Holding

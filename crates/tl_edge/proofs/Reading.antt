@@ -245,7 +245,7 @@ same_lane_told width request asked response other back back_too same e =
     (sym (response_joined width request.address request response back) ∙ ap (joined_response width request.address) (e ∙ moved) ∙ response_joined width request.address asked other back_too)
 
 -- multiples of a number that differ are apart by it
-multiples_apart : (unit f g : ℕ) → 0 < unit → f % unit ≡ 0 → g % unit ≡ 0 → f < g → f + unit ≤ g
+pub multiples_apart : (unit f g : ℕ) → 0 < unit → f % unit ≡ 0 → g % unit ≡ 0 → f < g → f + unit ≤ g
 multiples_apart unit f g some e d less =
     let whole : f / unit * unit ≡ f = omega (arith, div-add-mod' f unit, e) in
     let whole_too : g / unit * unit ≡ g = omega (arith, div-add-mod' g unit, d) in

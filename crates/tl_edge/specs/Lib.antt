@@ -9,3 +9,4 @@ pub mod PlanLaws
 pub mod Plans
 pub mod SoundPlans
 pub mod Spelling
+pub mod Wires

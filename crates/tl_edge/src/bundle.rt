@@ -34,8 +34,8 @@ fn bits_for(n: u64) -> u32
     digits_of(n).max(1)
 }
 
-// The base-2 logarithm of a power of two, and 0 for 0.
-fn log_of(n: u32) -> u32
+/// The base-2 logarithm of a power of two, and 0 for 0.
+pub fn log_of(n: u32) -> u32
     ensures { result ≡ spec.log_of n }
 {
     digits_of(u64::from(n)).saturating_sub(1)

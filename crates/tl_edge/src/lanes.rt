@@ -59,9 +59,10 @@ pub(crate) fn data_beats(size: u32, width: u32) -> u32
     ((1 << size) / width).max(1)
 }
 
-/// What the beat with a number, from 0, carries of a list.
-pub(crate) fn part<T>(items: &[T], width: u32, number: u32) -> &[T]
-    requires width { width ≤ spec.most_lanes }
+/// The part of a list with a number, from 0, of `width` items: what the beat with that number carries, or what the
+/// piece with it has.
+pub fn part<T>(items: &[T], width: u32, number: u32) -> &[T]
+    requires width { width ≤ 256 }
     requires number { number ≤ 256 }
     requires few { length items.now ≤ 256 }
     ensures { result.now ≡ spec.part width number items.now }

@@ -2,6 +2,7 @@ ghost use Rattle.tl_edge.specs.BeatLaws.{ActiveLaw, HeadsLaw, JoinLaw, LanesLaw,
 ghost use Rattle.tl_edge.specs.Bundles.{BitsLaw, BundleLaw};
 ghost use Rattle.tl_edge.specs.Legal.{LegalLaw};
 ghost use Rattle.tl_edge.specs.Spelling.{MoreLaw, NextLaw, PrefixLaw, SpellingLaw};
+ghost use Rattle.tl_edge.specs.Wires.{WiresLaw};
 
 /// What the widths of a bundle's wires mean: they are least numbers of bits, of the greatest address that a
 /// slave answers and of the exponent of the largest transfer that one supports.
@@ -64,4 +65,10 @@ pub fn more_law()
 /// A request that is legal by masters is legal on their edge, and an owned address has at most 48 bits.
 pub fn legal_law()
     ensures { LegalLaw }
+{}
+
+/// Fields tell their beat, and the beats of a legal request and of an answer to it fit the wires and the ids of
+/// their edge.
+pub fn wires_law()
+    ensures { WiresLaw }
 {}

@@ -1,5 +1,6 @@
 -- The beats of pieces among those of their request.
 use Rattle.std.proofs.Common.{ℕ, zero, suc, ◌≡◌, ◌+◌, ◌*◌, ◌/◌, ◌%◌, ◌^◌, ◌-◌, ◌<◌, ◌≤◌, inl, inr, min, max, List, [], ◌∷◌, length, take, drop, map, replicate, Bool, true, false, cond, IsTrue, ap, sym, ◌∙◌, refl, subst, arith}
+use Rattle.std.specs.Int.{IsPowerOfTwo}
 use Rattle.std.proofs.Math.Nat.{mul-div_cancel_left}
 use Rattle.std.proofs.lemmas.Bool.{cases_Bool, cond-true, cond-false}
 use Rattle.std.proofs.lemmas.Nat.{row_fits}
@@ -13,7 +14,7 @@ use Rattle.tl_edge.specs.Messages.{bytes_of, has_data, has_flags}
 use Rattle.tl_edge.specs.Beats.{first_lane, lane_count, on_bits, on_bytes, part, data_beats, request_beats, flags_of, a_beat}
 use Rattle.tl_edge.proofs.Active.{IsBus, bus_of, bus_pos, compared, larger, smaller, times-le, first_large, set_part}
 use Rattle.tl_pieces.specs.Cutting.{is_cut, piece, piece_count}
-use Rattle.tl_pieces.specs.CutLaws.{IsPieceSize, IsCutOn, piece_beats, PieceBeatsLaw}
+use Rattle.tl_pieces.specs.CutLaws.{IsCutOn, piece_beats, PieceBeatsLaw}
 use Rattle.tl_pieces.proofs.Parts.{part-part, part-nil, bytes_of-log, most_pos, larger_than_most, IsWholePieces, whole_pieces, piece_within}
 
 -- a piece has a whole number of beats' bytes
@@ -21,7 +22,7 @@ pub record IsWholeBeats (width most : ℕ) : Type 0 where
   pub is : most ≡ data_beats (log_of most) width * width
   pub some : 0 < width
 
-pub whole_beats : (width most : ℕ) → IsTrue (is_width width) → IsPieceSize most → width ≤ most → IsWholeBeats width most
+pub whole_beats : (width most : ℕ) → IsTrue (is_width width) → IsPowerOfTwo most → width ≤ most → IsWholeBeats width most
 whole_beats width most is_bus size filled =
     let bus : IsBus width = bus_of width is_bus in
     let bytes : bytes_of (log_of most) ≡ most = bytes_of-log most size in
@@ -47,7 +48,7 @@ same_part width most number beat xs whole h =
     ap (λ (n : ℕ). part width beat (part n number xs)) whole.is ∙ part-part width (data_beats (log_of most) width) number beat xs h
 
 -- the flags of a piece are its part of the request's
-piece_flags : (most : ℕ) (request : Request) (number : ℕ) → IsPieceSize most → number * most + most ≤ bytes_of request.size → flags_of (piece most request number) ≡ part most number (flags_of request)
+piece_flags : (most : ℕ) (request : Request) (number : ℕ) → IsPowerOfTwo most → number * most + most ≤ bytes_of request.size → flags_of (piece most request number) ≡ part most number (flags_of request)
 piece_flags most request number size within = by_kind (has_flags request.op)
   where
     all : replicate (bytes_of (log_of most)) true ≡ part most number (replicate (bytes_of request.size) true)

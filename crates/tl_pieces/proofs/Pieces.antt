@@ -1,5 +1,6 @@
 -- The pieces of a request.
 use Rattle.std.proofs.Common.{ℕ, zero, suc, ◌≡◌, ◌+◌, ◌*◌, ◌/◌, ◌%◌, ◌^◌, ◌-◌, ◌<◌, ◌≤◌, inl, inr, List, [], ◌∷◌, ◌++◌, append-nil, length, get_or, take, drop, map, Bool, true, false, cond, All, AllPairs, ap, sym, ◌∙◌, refl, subst, arith}
+use Rattle.std.specs.Int.{IsPowerOfTwo}
 use Rattle.std.specs.Prelude.{Any}
 use Rattle.std.specs.List.{range_with_len, flat_map}
 use Rattle.std.proofs.lemmas.Bool.{cases_Bool, cond-true, cond-false}
@@ -13,11 +14,12 @@ use Rattle.tl_edge.specs.declared.message.Request.{Request}
 use Rattle.tl_edge.specs.Messages.{bytes_of, has_data, has_flags, IsRequest, IsWholeRequest, AreBytes}
 use Rattle.tl_edge.specs.Bundles.{log_of}
 use Rattle.tl_edge.specs.Beats.{part}
+use Rattle.tl_edge.proofs.Fitting.{all_made}
 use Rattle.tl_edge.proofs.LaneByLane.{get_or-part}
 use Rattle.tl_edge.proofs.Active.{all_or_none}
 use Rattle.tl_edge.proofs.Reading.{flat_map-map, parts_joined}
 use Rattle.tl_pieces.specs.Cutting.{is_cut, piece, piece_count, cut_at}
-use Rattle.tl_pieces.specs.CutLaws.{IsPieceSize, IsCuttable, AsksSame, HasByte, EndsBefore, CutLaw}
+use Rattle.tl_pieces.specs.CutLaws.{IsCuttable, AsksSame, HasByte, EndsBefore, CutLaw}
 use Rattle.tl_pieces.proofs.Parts.{part-nil, length-part_within, bytes_of-log, most_pos, larger_than_most, IsWholePieces, whole_pieces, piece_within, aligned_piece}
 
 uncut : (most : ℕ) (request : Request) → is_cut most request ≡ false → cut_at most request ≡ request ∷ []
@@ -33,10 +35,7 @@ all_pieces P most request one each =
     elim (cases_Bool (is_cut most request)) [
       | inr no_cut ↦ subst (All P) (sym (uncut most request no_cut)) (All-cons P request [] (one no_cut) (All-nil P))
       | inl cuts ↦ subst (All P) (sym (are_pieces most request cuts))
-          (All-map P (piece most request) (range_with_len 0 (piece_count most request)) (λ k d below.
-            let within : k < piece_count most request = omega (arith, below, length-range_with_len 0 (piece_count most request)) in
-            let same : get_or (range_with_len 0 (piece_count most request)) k d ≡ k = omega (arith, get_or-range_with_len 0 (piece_count most request) k d within) in
-            subst (λ (n : ℕ). P (piece most request n)) (sym same) (each cuts k within)))
+          (all_made P (piece most request) (piece_count most request) (each cuts))
     ]
 
 number_law : (most : ℕ) (request : Request) → IsCuttable most request → is_cut most request ≡ true → length (cut_at most request) * most ≡ bytes_of request.size
@@ -68,7 +67,7 @@ whole_piece most request number is h below =
 -- ---- the byte at an offset
 
 -- the byte that a piece has at an offset within it
-byte_in_piece : (most : ℕ) (request : Request) (number offset : ℕ) → IsPieceSize most → number * most ≤ offset → offset < number * most + most → HasByte request offset (piece most request number)
+byte_in_piece : (most : ℕ) (request : Request) (number offset : ℕ) → IsPowerOfTwo most → number * most ≤ offset → offset < number * most + most → HasByte request offset (piece most request number)
 byte_in_piece most request number offset size from to =
     let inner : request.address + offset - (request.address + number * most) ≡ offset - number * most = omega (arith, from) in
     let short : offset - number * most < most = omega (arith, from, to) in
@@ -105,7 +104,7 @@ has_byte most request offset is below =
 one_alone : (R : Request → Request → Type 0) (request : Request) → AllPairs R (request ∷ [])
 one_alone R request = AllPairs-cons R request [] (All-nil (R request)) (pairs_none R)
 
-ends_before : (most : ℕ) (request : Request) (one other : ℕ) → IsPieceSize most → one < other → EndsBefore (piece most request one) (piece most request other)
+ends_before : (most : ℕ) (request : Request) (one other : ℕ) → IsPowerOfTwo most → one < other → EndsBefore (piece most request one) (piece most request other)
 ends_before most request one other size less = omega (arith, bytes_of-log most size, row_fits one most other most less (omega arith))
 
 apart : (most : ℕ) (request : Request) → IsCuttable most request → AllPairs EndsBefore (cut_at most request)
@@ -124,7 +123,7 @@ apart most request is =
 
 -- ---- pieces joined
 
-joined : {A : Type 0} (field : Request → List A) (most : ℕ) (request : Request) → IsPieceSize most → length (field request) ≤ bytes_of request.size
+joined : {A : Type 0} (field : Request → List A) (most : ℕ) (request : Request) → IsPowerOfTwo most → length (field request) ≤ bytes_of request.size
     → ((number : ℕ) → field (piece most request number) ≡ part most number (field request)) → flat_map field (cut_at most request) ≡ field request
 joined {A = A} field most request size few parts =
     elim (cases_Bool (is_cut most request)) [

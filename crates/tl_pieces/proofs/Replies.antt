@@ -1,5 +1,6 @@
 -- The reply to a request from the answers to its pieces.
 use Rattle.std.proofs.Common.{ℕ, zero, suc, ◌≡◌, ◌+◌, ◌*◌, ◌/◌, ◌%◌, ◌^◌, ◌-◌, ◌<◌, ◌≤◌, inl, inr, List, [], ◌∷◌, ◌++◌, append-nil, length, get_or, take, drop, map, replicate, Bool, true, false, ◌||◌, cond, All, IsTrue, Some, slice_get, lit<, ap, sym, ◌∙◌, refl, subst, arith}
+use Rattle.std.specs.Int.{IsPowerOfTwo}
 use Rattle.std.specs.Prelude.{Any}
 use Rattle.std.specs.List.{range_with_len, flat_map, list_any, AllZip}
 use Rattle.std.proofs.lemmas.Bool.{cases_Bool, cond-true, cond-false, or_left, or_right, or_from}
@@ -18,7 +19,7 @@ use Rattle.tl_edge.specs.Joined.{told}
 use Rattle.tl_edge.proofs.Ways.{item_has}
 use Rattle.tl_edge.proofs.Cuts.{made_item}
 use Rattle.tl_pieces.specs.Cutting.{is_cut, piece, piece_count, cut_at, any_denied, joined_data, reply_data, reply_to}
-use Rattle.tl_pieces.specs.CutLaws.{IsPieceSize, IsCuttable, AsksSame, IsCutOn, answer_beats, AreAnswers, ReplyLaw}
+use Rattle.tl_pieces.specs.CutLaws.{IsCuttable, AsksSame, IsCutOn, answer_beats, AreAnswers, ReplyLaw}
 use Rattle.tl_pieces.proofs.Parts.{part-nil}
 use Rattle.tl_pieces.proofs.Pieces.{are_pieces, cut_law}
 use Rattle.tl_pieces.proofs.PieceBeats.{first_zero, same_part, whole_beats}

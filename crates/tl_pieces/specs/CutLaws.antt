@@ -1,5 +1,6 @@
 -- What pieces and replies have.
 use Rattle.std.specs.Prelude.{ℕ, ◌≡◌, ◌≤◌, ◌<◌, ◌+◌, ◌-◌, ◌*◌, ◌^◌, List, [], ◌∷◌, All, Any, AllPairs, length, slice_index, Some, slice_get, true, false, IsTrue}
+use Rattle.std.specs.Int.{IsPowerOfTwo}
 use Rattle.std.specs.List.{flat_map, AllZip}
 use Rattle.tl_params.specs.Arguments.{is_width}
 use Rattle.tl_edge.specs.declared.message.Request.{Request}
@@ -10,14 +11,9 @@ use Rattle.tl_edge.specs.Beats.{a_beat, d_beat, request_beats, response_beats}
 use Rattle.tl_edge.specs.Joined.{told}
 use Rattle.tl_pieces.specs.Cutting.{is_cut, piece, piece_count, cut_at, reply_to}
 
--- a piece has a power of two of bytes
-pub record IsPieceSize (most : ℕ) : Type 0 where
-  pub exponent : ℕ
-  pub is : most ≡ 2 ^ exponent
-
--- a whole request, and a size of pieces
+-- a whole request, and pieces of a power of two of bytes
 pub record IsCuttable (most : ℕ) (request : Request) : Type 0 where
-  pub size : IsPieceSize most
+  pub size : IsPowerOfTwo most
   pub whole : IsWholeRequest request
 
 -- a piece asks the same as the request
