@@ -2,7 +2,7 @@ ghost use Rattle.std.specs.Prelude.{◌≡◌, ◌<◌, ◌≤◌, ◌^◌, ◌+
 ghost use Rattle.dip_lists.specs.First.{first_failing};
 ghost use Rattle.dip_graph.specs.Faults.{IsFaultOf};
 ghost use Rattle.dip_graph.specs.Edges.{HasNodes};
-ghost use Rattle.dip_negotiate.specs.Negotiation.{IsOnlySolution, downs, ups};
+ghost use Rattle.dip_negotiate.specs.Negotiation.{IsNegotiable, IsOnlySolution};
 ghost use Rattle.tl_params.specs.Apart.{HasDisjointSets, HasOneOwnerEach};
 ghost use Rattle.dip_checks.specs.Checks as spec;
 
@@ -11,7 +11,7 @@ use crate::edges::edges_are_sound;
 use crate::fit::network_fits;
 use crate::graph::graph;
 use crate::rules::agreed;
-use dip_graph::{Design, Edge, Fault, NodeEntry};
+use dip_graph::{Design, Edge, Edges, Fault, NodeEntry};
 use dip_negotiate::Solution;
 use dip_rule::{Rules, Stating};
 use std::alloc::Global;
@@ -41,15 +41,14 @@ fn ports_are_sound(
 }
 
 // Checks 11 to 18, on a design with these edges.
-fn solved(alloc: Global, rules: &Rules, design: &Design, edges: &[Edge]) -> Result<Solution, Fault>
+fn solved(alloc: Global, rules: &Rules, design: &Design, edges: &Edges) -> Result<Solution, Fault>
     requires edges { length edges.now < 2 ^ 32 }
     requires nodes { length design.now.nodes < 2 ^ 32 }
+    requires negotiable { IsNegotiable design.now edges.now }
     ensures value { IfOk result (λ solution. solution ≡ spec.solution_of (⟦<Rules as Stating>⟧.stated
         rules.now) design.now edges.now) }
-    ensures down { IfOk result (λ solution. downs (⟦<Rules as Stating>⟧.stated rules.now) design.now
-        edges.now ≡ Ok solution.down) }
-    ensures up { IfOk result (λ solution. ups (⟦<Rules as Stating>⟧.stated rules.now) design.now
-        edges.now ≡ Ok solution.up) }
+    ensures only { IfOk result (IsOnlySolution (⟦<Rules as Stating>⟧.stated rules.now) design.now
+        edges.now) }
     ensures passes { IfOk result (λ _. first_failing (spec.port_checks (⟦<Rules as Stating>⟧.stated
         rules.now) design.now edges.now) ≡ None) }
     ensures apart { IfOk result (λ solution. All HasDisjointSets solution.up) }
@@ -57,7 +56,7 @@ fn solved(alloc: Global, rules: &Rules, design: &Design, edges: &[Edge]) -> Resu
         rules.now) design.now edges.now))) }
 {
     let solution = agreed(alloc, design, edges, rules)?;
-    ports_are_sound(alloc, rules, design.nodes.as_slice(), edges, &solution)?;
+    ports_are_sound(alloc, rules, design.nodes.as_slice(), edges.as_slice(), &solution)?;
     Ok(solution)
 }
 
@@ -66,7 +65,7 @@ fn solved(alloc: Global, rules: &Rules, design: &Design, edges: &[Edge]) -> Resu
 /// `Fault::Check` names the first of the checks 5 to 18 that fails, with the number of the bind, the node
 /// or the edge at which it does, or how many edges there are, or the weight. After `Fault::Memory` nothing
 /// is known.
-#[tactic(auto, using(crate::proofs::Solved::only_solution), unfolding(crate::specs::Checks::design_checks))]
+#[tactic(auto, using(crate::proofs::Solved::negotiable), unfolding(crate::specs::Checks::design_checks))]
 pub fn check_design(alloc: Global, design: &Design, rules: &Rules) -> Result<Agreed, Fault>
     requires nodes { length design.now.nodes ≤ 256 }
     requires binds { length design.now.binds ≤ 1024 }
@@ -84,6 +83,6 @@ pub fn check_design(alloc: Global, design: &Design, rules: &Rules) -> Result<Agr
     ensures owners { IfOk result (λ agreed. All HasOneOwnerEach agreed.solution.up) }
 {
     let edges = graph(alloc, design, rules)?;
-    let solution = solved(alloc, rules, design, edges.as_slice())?;
+    let solution = solved(alloc, rules, design, &edges)?;
     Ok(Agreed { edges, solution })
 }

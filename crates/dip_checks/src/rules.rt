@@ -1,10 +1,10 @@
 ghost use Rattle.std.specs.Prelude.{◌≡◌, ◌<◌, ◌^◌, None, Ok, length, IfOk, IfErr};
 ghost use Rattle.dip_lists.specs.First.{first_failing};
 ghost use Rattle.dip_graph.specs.Faults.{IsFaultOf};
-ghost use Rattle.dip_negotiate.specs.Negotiation.{IsNegFault, downs, ups};
+ghost use Rattle.dip_negotiate.specs.Negotiation.{IsNegFault, IsNegotiable, IsOnlySolution, downs, ups};
 ghost use Rattle.dip_checks.specs.Checks as spec;
 
-use dip_graph::{Design, Edge, Fault};
+use dip_graph::{Design, Edge, Edges, Fault};
 use dip_negotiate::{NegFault, Solution, negotiate};
 use dip_rule::{Rules, Stating};
 use std::alloc::Global;
@@ -34,15 +34,18 @@ fn refusal(design: &Design, edges: &[Edge], rules: &Rules, fault: NegFault) -> F
 pub fn agreed(
     alloc: Global,
     design: &Design,
-    edges: &[Edge],
+    edges: &Edges,
     rules: &Rules,
 ) -> Result<Solution, Fault>
     requires nodes { length design.now.nodes < 2 ^ 32 }
     requires edges { length edges.now < 2 ^ 32 }
+    requires negotiable { IsNegotiable design.now edges.now }
     ensures down { IfOk result (λ solution. downs (⟦<Rules as Stating>⟧.stated rules.now) design.now
         edges.now ≡ Ok solution.down) }
     ensures up { IfOk result (λ solution. ups (⟦<Rules as Stating>⟧.stated rules.now) design.now
         edges.now ≡ Ok solution.up) }
+    ensures only { IfOk result (IsOnlySolution (⟦<Rules as Stating>⟧.stated rules.now) design.now
+        edges.now) }
     ensures passes { IfOk result (λ _. first_failing (spec.rule_checks (⟦<Rules as Stating>⟧.stated
         rules.now) design.now edges.now) ≡ None) }
     ensures err { IfErr result (IsFaultOf (first_failing (spec.rule_checks (⟦<Rules as Stating>⟧.stated
@@ -50,6 +53,6 @@ pub fn agreed(
 {
     match negotiate(alloc, design, edges, rules) {
         Ok(solution) => Ok(solution),
-        Err(fault) => Err(refusal(design, edges, rules, fault)),
+        Err(fault) => Err(refusal(design, edges.as_slice(), rules, fault)),
     }
 }

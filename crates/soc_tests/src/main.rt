@@ -8,12 +8,13 @@
 //! line end), `cuts` on each front of it, `puts` where each put fails in turn, `loads` where the first load
 //! fails, `given TEMPLATE DOWN UP` by a rule of the kind `given` besides, `narrow` by one rule alone, of
 //! the kind `narrow`, and `run ..` runs these words on the files that lie where this program runs. `tree`
-//! prints what the design file states and the map doesn't show.
+//! prints what the design file states and the map doesn't show, and `plan` the plan of its design.
 #![tactic(auto)]
 
 mod answers;
 mod lies;
 mod narrow;
+mod plan;
 mod rules;
 mod script;
 mod tree;

@@ -2,6 +2,7 @@ use crate::answers::{
     FIRST_LOAD, Failing, NOTHING, map, print_answer, print_ended, print_size, run_words,
 };
 use crate::lies::{map_by_given, map_by_narrow};
+use crate::plan::show_plan;
 use crate::tree::show_tree;
 use dip_lists::{Items, Memory};
 use std::alloc::Global;
@@ -212,6 +213,7 @@ impl Script {
             "narrow" => print_ended(rt, map_by_narrow(self.alloc, self.file.as_bytes())),
             "size" => print_size(rt, map(self.alloc, self.file.as_bytes(), &NOTHING)),
             "tree" => show_tree(rt, self.file.as_bytes()),
+            "plan" => show_plan(rt, self.file.as_bytes()),
             "run" => run_words(rt, argument),
             _ => println!(rt; "unknown: {command}"),
         }
