@@ -9,13 +9,11 @@ use Rattle.dip_graph.specs.declared.fault.Fault.{Fault}
 use Rattle.dip_graph.specs.Faults.{IsFaultOf}
 use Rattle.dip_graph.proofs.Finding.{in_first, in_second, both_pass}
 use Rattle.dip_rule.specs.Stated.{StatedRule}
-use Rattle.tl_edge.specs.SoundPlans.{IsSound}
 use Rattle.dip_checks.specs.Checks.{design_checks}
 use Rattle.dip_plan.specs.DesignPlans.{accepted_of}
-use Rattle.dip_plan.specs.Standing.{StandsTo}
 use Rattle.soc_design.specs.Reading.{file_checks, stated_design}
 use Rattle.soc_report.specs.MapText.{map_text}
-use Rattle.soc_top.specs.Designs.{checks_of, first_failure, map_of, map_of_design, IsMapOf}
+use Rattle.soc_top.specs.Designs.{checks_of, first_failure, map_of, map_of_design, HasSoundPlan, IsMapOf}
 
 module _ (rules : List StatedRule) (bytes : List ℕ) where
   pub file_fault : (fault : Fault) → IsFaultOf (first_failing (file_checks bytes)) fault → IsFaultOf (first_failure rules bytes) fault
@@ -55,8 +53,6 @@ module _ (rules : List StatedRule) (bytes : List ℕ) where
     pub maps_only : (r : Result (List ℕ) Fault) → IfOk r (λ text. text ≡ map_text design (accepted_of rules design))
         → IfOk r (λ _. IsOnlySolution rules design (accepted_of rules design).edges (accepted_of rules design).solution)
         → IfOk r (λ _. All HasDisjointSets (accepted_of rules design).solution.up)
-        → IfOk r (λ _. IsSound (accepted_of rules design).plan × StandsTo design (accepted_of rules design).edges (accepted_of rules design).solution (accepted_of rules design).plan)
-        → IfOk r (λ text. IsMapOf rules bytes text)
-    maps_only (Ok text) m o a p =
-        record { design = design; stated = stated; accepted = accepted_of rules design; edges = refl; only = o; apart = a; sound = p.0; stands = p.1; text = m }
+        → IfOk r (λ _. HasSoundPlan design (accepted_of rules design)) → IfOk r (λ text. IsMapOf rules bytes text)
+    maps_only (Ok text) m o a p = record { design = design; stated = stated; accepted = accepted_of rules design; edges = refl; only = o; apart = a; planned = p; text = m }
     maps_only (Err fault) m o a p = tt

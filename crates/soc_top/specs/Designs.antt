@@ -48,6 +48,11 @@ abbrev pub due_text : List StatedRule → List ℕ → Option Failure → List �
 due_text rules bytes None = map_of rules bytes
 due_text rules bytes (Some failure) = line_of (answer_of (Some failure))
 
+-- the plan of an accepted design is sound, and stands to the design as it should
+unfoldable pub HasSoundPlan : Design → Accepted → Type 0
+HasSoundPlan design accepted =
+    IsSound accepted.plan × StandsTo design accepted.edges accepted.solution accepted.plan
+
 -- The map of what a file states: of the only solution of its design, in which no address is in two sets of an edge,
 -- and whose plan is sound.
 pub record IsMapOf (rules : List StatedRule) (bytes printed : List ℕ) : Type 0 where
@@ -57,6 +62,5 @@ pub record IsMapOf (rules : List StatedRule) (bytes printed : List ℕ) : Type 0
   pub edges : accepted.edges ≡ edges_in rules design
   pub only : IsOnlySolution rules design accepted.edges accepted.solution
   pub apart : All HasDisjointSets accepted.solution.up
-  pub sound : IsSound accepted.plan
-  pub stands : StandsTo design accepted.edges accepted.solution accepted.plan
+  pub planned : HasSoundPlan design accepted
   pub text : printed ≡ map_text design accepted

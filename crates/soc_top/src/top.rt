@@ -5,16 +5,14 @@ ghost use Rattle.dip_io.specs.Outside.{SameContent};
 ghost use Rattle.tl_params.specs.Apart.{HasDisjointSets};
 ghost use Rattle.dip_graph.specs.WellStated.{IsWellStated};
 ghost use Rattle.dip_negotiate.specs.Negotiation.{IsOnlySolution};
-ghost use Rattle.tl_edge.specs.SoundPlans.{IsSound};
 ghost use Rattle.dip_checks.specs.Checks.{design_checks};
 ghost use Rattle.dip_plan.specs.DesignPlans.{accepted_of};
-ghost use Rattle.dip_plan.specs.Standing.{StandsTo};
 ghost use Rattle.soc_report.specs.MapText.{map_text};
 ghost use Rattle.dip_graph.specs.Faults.{IsFaultOf};
 ghost use Rattle.soc_report.specs.Lines.{line_of};
 ghost use Rattle.soc_report.specs.declared.status.Status.TheVariants.{Done};
 ghost use Rattle.soc_top.specs.Words.{design_named, words_of};
-ghost use Rattle.soc_top.specs.Designs.{first_failure, map_of, IsMapOf};
+ghost use Rattle.soc_top.specs.Designs.{first_failure, map_of, HasSoundPlan, IsMapOf};
 ghost use Rattle.soc_top.specs.Printing.{Printed, RunsOn};
 ghost use Rattle.soc_top.specs.Answers.{Answered, Completed, world};
 
@@ -65,10 +63,8 @@ fn map_of_design(alloc: Global, design: &Design, rules: &Rules) -> Result<Bytes,
         (accepted_of (⟦<Rules as Stating>⟧.stated rules.now) design.now).solution) }
     ensures apart { IfOk result (λ _. All HasDisjointSets (accepted_of (⟦<Rules as Stating>⟧.stated
         rules.now) design.now).solution.up) }
-    ensures planned { IfOk result (λ _. IsSound (accepted_of (⟦<Rules as Stating>⟧.stated rules.now)
-        design.now).plan × StandsTo design.now (accepted_of (⟦<Rules as Stating>⟧.stated rules.now)
-        design.now).edges (accepted_of (⟦<Rules as Stating>⟧.stated rules.now) design.now).solution
-        (accepted_of (⟦<Rules as Stating>⟧.stated rules.now) design.now).plan) }
+    ensures planned { IfOk result (λ _. HasSoundPlan design.now (accepted_of
+        (⟦<Rules as Stating>⟧.stated rules.now) design.now)) }
 {
     let accepted = check(alloc, design, rules)?;
     let text = map_text(alloc, design, &accepted)?;
