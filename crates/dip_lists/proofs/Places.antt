@@ -1,7 +1,7 @@
 -- The subjects at which a test fails.
 use Rattle.std.proofs.Common.{◌≡◌, ℕ, zero, suc, ◌<◌, ◌≤◌, ◌+◌, ⊎_elim, List, [], ◌∷◌, Bool, true, false, cond, IsTrue, Option, Some, unwrap_or, All, AllPairs, refl, sym, ap, subst, arith}
 use Rattle.std.specs.Prelude.{Contains, slice_get}
-use Rattle.std.proofs.lemmas.List.Elements.{All-nil, All-cons, Contains-push, Contains-append_left, Contains-append_right}
+use Rattle.std.proofs.lemmas.List.Elements.{All-nil, All-cons, All-weaker, Contains-push, Contains-append_left, Contains-append_right}
 use Rattle.std.proofs.lemmas.List.Kept.{AllPairs-cons}
 use Rattle.dip_lists.specs.First.{places}
 use Rattle.dip_lists.specs.PlacesLaw.{FailsAt, PlacesLaw}
@@ -64,29 +64,27 @@ is_listed fails start [] subject h = let never = h.is in absurd (cc)
 is_listed fails start (x ∷ items) subject h =
     listed_step fails start x items subject h.place h.item h.is h.counted h.failing (is_listed fails (start + 1) items subject)
 
-from_step : (fails : ℕ → ℕ → Bool) (start : ℕ) (items : List ℕ) (b : Bool) → All (λ s. start ≤ s) (places fails (start + 1) items) → All (λ s. start ≤ s) (Step fails b start items)
-unfolding Step
-from_step fails start items true later = All-cons (λ s. start ≤ s) start (places fails (start + 1) items) (omega arith) later
-from_step fails start items false later = later
+-- at one failing place or none
+at_a_place : (fails : Bool) (n : ℕ) (later : List ℕ) → All (λ m. n < m) later → All (λ m. n ≤ m) (cond fails (n ∷ later) later)
+at_a_place true n later h = All-cons (λ m. n ≤ m) n later (omega arith) (All-weaker (λ m. n < m) (λ m. n ≤ m) (λ m above. omega arith) later h)
+at_a_place false n later h = All-weaker (λ m. n < m) (λ m. n ≤ m) (λ m above. omega arith) later h
 
-from_start : (fails : ℕ → ℕ → Bool) (start : ℕ) (items : List ℕ) → All (λ s. start ≤ s) (places fails start items)
-unfolding Step
-from_start fails start [] = All-nil (λ s. start ≤ s)
-from_start fails start (x ∷ items) =
-    let later = from_start fails (start + 1) items in
-    from_step fails start items (fails start x) (λ k d within. omega (arith, later k d within))
+from_start : {A : Type 0} (fails : ℕ → A → Bool) (n : ℕ) (xs : List A) → All (λ m. n ≤ m) (places fails n xs)
+from_start fails n [] = All-nil (λ m. n ≤ m)
+from_start fails n (x ∷ xs) =
+    at_a_place (fails n x) n (places fails (n + 1) xs)
+    (All-weaker (λ m. n + 1 ≤ m) (λ m. n < m) (λ m above. omega arith) (places fails (n + 1) xs) (from_start fails (n + 1) xs))
 
-rise_step : (fails : ℕ → ℕ → Bool) (start : ℕ) (items : List ℕ) (b : Bool) → AllPairs (λ a b. a < b) (places fails (start + 1) items) → AllPairs (λ a b. a < b) (Step fails b start items)
-unfolding Step
-rise_step fails start items true rest =
-    let later = from_start fails (start + 1) items in
-    AllPairs-cons (λ a b. a < b) start (places fails (start + 1) items) (λ k d within. omega (arith, later k d within)) rest
-rise_step fails start items false rest = rest
+rise_behind : (fails : Bool) (n : ℕ) (later : List ℕ) → All (λ m. n < m) later → AllPairs (λ a b. a < b) later → AllPairs (λ a b. a < b) (cond fails (n ∷ later) later)
+rise_behind true n later h r = AllPairs-cons (λ a b. a < b) n later h r
+rise_behind false n later h r = r
 
-rise : (fails : ℕ → ℕ → Bool) (start : ℕ) (items : List ℕ) → AllPairs (λ a b. a < b) (places fails start items)
-unfolding Step
-rise fails start [] = λ i j d before within. absurd (omega arith)
-rise fails start (x ∷ items) = rise_step fails start items (fails start x) (rise fails (start + 1) items)
+pub places_rise : {A : Type 0} (fails : ℕ → A → Bool) (n : ℕ) (xs : List A) → AllPairs (λ a b. a < b) (places fails n xs)
+places_rise fails n [] = λ i j d before within. absurd (omega arith)
+places_rise fails n (x ∷ xs) =
+    rise_behind (fails n x) n (places fails (n + 1) xs)
+    (All-weaker (λ m. n + 1 ≤ m) (λ m. n < m) (λ m above. omega arith) (places fails (n + 1) xs) (from_start fails (n + 1) xs))
+    (places_rise fails (n + 1) xs)
 
 pub places_law : PlacesLaw
-places_law = record { failing = λ fails start items subject. (fails_at fails start items subject, is_listed fails start items subject); rising = rise }
+places_law = record { failing = λ fails start items subject. (fails_at fails start items subject, is_listed fails start items subject); rising = places_rise }
