@@ -14,3 +14,4 @@ pub mod Passing
 pub mod Shared
 pub mod Turned
 pub mod Lazily
+pub mod Demanded

@@ -15,7 +15,7 @@ use Rattle.dip_negotiate.proofs.Asked.{keeps_port, keeps_still, port_kept}
 same_ok : {P : Type 0} (x y : P) → ◌≡◌ {A = Result P ℕ} (Ok x) (Ok y) → x ≡ y
 same_ok x y e = cc
 
-no_ok : {P : Type 0} (r : Result P ℕ) (port : P) (n : ℕ) → r ≡ Ok port → r ≡ Err n → ⊥
+pub no_ok : {P : Type 0} (r : Result P ℕ) (port : P) (n : ℕ) → r ≡ Ok port → r ≡ Err n → ⊥
 no_ok r port n a b = absurd cc
 
 same_edge : (d e : Edge) → ◌≡◌ {A = Option Edge} (Some d) (Some e) → d ≡ e

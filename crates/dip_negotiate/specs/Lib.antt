@@ -3,3 +3,4 @@ pub mod Places
 pub mod Negotiation
 pub mod Demands
 pub mod Turns
+pub mod DemandsLaw

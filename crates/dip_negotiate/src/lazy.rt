@@ -166,6 +166,13 @@ impl<'a> Lazy<'a> {
         })
     }
 
+    /// How many edges there are.
+    pub fn edge_count(&self) -> usize
+        ensures { result ≡ length self.now.edges.now }
+    {
+        self.edges.len()
+    }
+
     /// Whether what goes down an edge is kept.
     pub fn keeps_down(&self, edge: u32) -> bool
         ensures { result ≡ spec.keeps (spec.seen self.now.down_turns.firsts self.now.down.items) edge }

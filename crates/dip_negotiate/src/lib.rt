@@ -7,14 +7,16 @@ mod kept;
 mod laws;
 mod lazy;
 mod marking;
+mod negotiable;
 mod negotiated;
 mod ports;
 mod solution;
 mod steps;
 mod turns;
 
-pub use laws::negotiation_law;
+pub use laws::{demand_law, negotiation_law};
 pub use lazy::{Lazy, negotiate};
+pub use negotiable::is_negotiable;
 pub use solution::{NegFault, Solution};
 // The types of which the definitions speak.
 pub use steps::{End, Step, Steps};

@@ -4,9 +4,9 @@ use crate::broken::Broken;
 use crate::designs::design;
 use crate::show::{end, show_down, show_edge, show_up};
 use dip_checks::weight;
-use dip_graph::{Design, Edge, Numbers, OrderFault, order};
+use dip_graph::{Design, Edge, Edges, Numbers, OrderFault, order};
 use dip_lists::Memory;
-use dip_negotiate::{NegFault, Solution, negotiate};
+use dip_negotiate::{NegFault, Solution, is_negotiable, negotiate};
 use dip_rule::Rules;
 use dip_stars::{StarFault, resolve};
 use std::alloc::Global;
@@ -14,8 +14,8 @@ use std::alloc::Global;
 /// The most nodes of a design here, and the most binds.
 const MOST: usize = 2000;
 
-// A design that isn't too large to be asked about.
-fn small_design(alloc: Global, text: &str) -> Result<Design, Memory>
+/// A design that isn't too large to be asked about.
+pub fn small_design(alloc: Global, text: &str) -> Result<Design, Memory>
     ensures nodes { IfOk result (λ design. length design.nodes ≤ 2000) }
     ensures binds { IfOk result (λ design. length design.binds ≤ 2000) }
 {
@@ -26,16 +26,34 @@ fn small_design(alloc: Global, text: &str) -> Result<Design, Memory>
     Ok(design)
 }
 
-// The weight of a design with these edges.
-fn weight_of(alloc: Global, rules: &Rules, design: &Design, edges: &[Edge]) -> Result<u64, Broken>
+/// What the ports of a design with these edges agree on.
+pub fn solution_of(
+    alloc: Global,
+    rules: &Rules,
+    design: &Design,
+    edges: &Edges,
+) -> Result<Solution, NegFault>
     requires nodes { length design.now.nodes ≤ 2000 }
     requires edges { length edges.now ≤ 1024 }
 {
-    let Ok(solution) = negotiate(alloc, design, edges, rules) else {
+    if is_negotiable(alloc, design, edges.as_slice())? {
+        negotiate(alloc, design, edges, rules)
+    } else {
+        Err(NegFault::Memory)
+    }
+}
+
+// The weight of a design with these edges.
+fn weight_of(alloc: Global, rules: &Rules, design: &Design, edges: &Edges) -> Result<u64, Broken>
+    requires nodes { length design.now.nodes ≤ 2000 }
+    requires edges { length edges.now ≤ 1024 }
+{
+    let Ok(solution) = solution_of(alloc, rules, design, edges) else {
         return Err(Broken::Memory);
     };
     let (down, up) = (solution.down.as_slice(), solution.up.as_slice());
-    Ok(weight(alloc, rules, design.nodes.as_slice(), edges, down, up)?)
+    let nodes = design.nodes.as_slice();
+    Ok(weight(alloc, rules, nodes, edges.as_slice(), down, up)?)
 }
 
 fn show_order(rt: &HostRuntime, order: &Numbers) -> Result<(), Broken> {
@@ -98,8 +116,8 @@ fn show_solution(rt: &HostRuntime, solution: &Solution) -> Result<(), Broken> {
     end(rt)
 }
 
-// Where a rule refuses.
-fn show_refusal(rt: &HostRuntime, fault: NegFault) -> Result<(), Broken> {
+/// Where a rule refuses.
+pub fn show_refusal(rt: &HostRuntime, fault: NegFault) -> Result<(), Broken> {
     match fault {
         NegFault::DownRefused { node, port, number } => {
             Ok(println!(rt; " node {node} refuses down at port {port} with {number}")?)
@@ -117,7 +135,7 @@ pub fn ask_ports(rt: &HostRuntime, rules: &Rules, text: &str) -> Result<(), Brok
     let Ok(edges) = resolve(rt.alloc(), &design, rules) else {
         return Err(Broken::Memory);
     };
-    match negotiate(rt.alloc(), &design, edges.as_slice(), rules) {
+    match solution_of(rt.alloc(), rules, &design, &edges) {
         Ok(solution) => show_solution(rt, &solution),
         Err(fault) => show_refusal(rt, fault),
     }
@@ -129,6 +147,6 @@ pub fn ask_weight(rt: &HostRuntime, rules: &Rules, text: &str) -> Result<(), Bro
     let Ok(edges) = resolve(rt.alloc(), &design, rules) else {
         return Err(Broken::Memory);
     };
-    let weight = weight_of(rt.alloc(), rules, &design, edges.as_slice())?;
+    let weight = weight_of(rt.alloc(), rules, &design, &edges)?;
     Ok(println!(rt; " {weight}")?)
 }

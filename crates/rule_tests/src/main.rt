@@ -6,6 +6,7 @@ mod asked;
 mod broken;
 mod designs;
 mod graphs;
+mod lazy;
 mod own;
 mod ports;
 mod show;

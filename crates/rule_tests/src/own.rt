@@ -1,10 +1,73 @@
 ghost use Rattle.std.specs.Prelude.{Err, ⊤};
 ghost use Rattle.dip_rule.specs.Stated.{Answers, IsStated};
+ghost use Rattle.tl_rules.specs.Adapters as adapters;
 
 use dip_lists::{Items, Memory};
 use dip_rule::{AskedDown, AskedUp, ByDown, ByUp, Rule, RuleFault, Says, Stored};
 use std::alloc::Global;
+use std::cell::Cell;
+use std::rc::Rc;
 use tl_params::{Args, DownPort, UpPort};
+use tl_rules::{buffer_down, buffer_up};
+
+/// Answers as a buffer does, and counts how often it is asked. The first asking after `short` was set finds no
+/// memory.
+#[derive(Drop)]
+pub struct Counting {
+    pub alloc: Global,
+    pub asked: Rc<Cell<u32>>,
+    pub short: Rc<Cell<bool>>,
+}
+
+impl Counting {
+    // Counts an asking; whether it finds memory.
+    fn is_asked(&self) -> bool {
+        self.asked.set(self.asked.get().saturating_add(1));
+        !self.short.replace(false)
+    }
+}
+
+impl Rule for Counting {
+    ghost says_down = { λ s. adapters.buffer_down };
+
+    ghost says_up = { λ s. adapters.buffer_up };
+
+    fn down(&self, args: &Args, ins: &[DownPort]) -> Result<DownPort, RuleFault> {
+        if self.is_asked() {
+            buffer_down(self.alloc, args, ins)
+        } else {
+            Err(RuleFault::Memory)
+        }
+    }
+
+    fn up(&self, args: &Args, outs: &[UpPort]) -> Result<UpPort, RuleFault> {
+        if self.is_asked() {
+            buffer_up(self.alloc, args, outs)
+        } else {
+            Err(RuleFault::Memory)
+        }
+    }
+}
+
+/// Answers down as a buffer does, and refuses all up with 9.
+#[derive(Drop)]
+pub struct RefusingUp {
+    pub alloc: Global,
+}
+
+impl Rule for RefusingUp {
+    ghost says_down = { λ s. adapters.buffer_down };
+
+    ghost says_up = { λ s args outs. Err 9 };
+
+    fn down(&self, args: &Args, ins: &[DownPort]) -> Result<DownPort, RuleFault> {
+        buffer_down(self.alloc, args, ins)
+    }
+
+    fn up(&self, _args: &Args, _outs: &[UpPort]) -> Result<UpPort, RuleFault> {
+        Err(RuleFault::Refused(9))
+    }
+}
 
 /// Refuses all with 7 down and with 8 up.
 #[derive(Drop)]
