@@ -10,6 +10,7 @@ use Rattle.std.proofs.lemmas.List.Kept.{AllPairs-cons}
 use Rattle.dip_lists.specs.First.{places}
 use Rattle.dip_sets.specs.declared.ids.IdRange.{IdRange}
 use Rattle.dip_sets.specs.SizeRanges.{SizeRange, size_range}
+use Rattle.tl_params.specs.declared.arguments.Fragments.{Fragments}
 use Rattle.dip_sets.specs.Assignments.{assigned}
 use Rattle.dip_plan.proofs.Members.{pairs_none}
 use Rattle.tl_params.specs.declared.ops.Template.{Template}
@@ -141,18 +142,18 @@ module _ (above below : EdgePorts) where
       two_widths p q = All-cons (λ edge. IsTrue (is_width (width_of edge))) (seen above) (seen below ∷ []) p (one (λ edge. IsTrue (is_width (width_of edge))) (seen below) q)
   adapter Fragmenter args h = at (fragment_arguments args) refl h
     where
-      at : (o : Option SizeRange) → fragment_arguments args ≡ o → fragments_fit o above below ≡ true → Fit Fragmenter args
+      at : (o : Option Fragments) → fragment_arguments args ≡ o → fragments_fit o above below ≡ true → Fit Fragmenter args
       at None e h = absurd cc
       at (Some f) e h =
-          let a = both _ (nat_le below.up.beat f.min) h in
+          let a = both _ (nat_le below.up.beat f.piece) h in
           let b = both _ (above.up.beat == below.up.beat) a.0 in
-          let c = both (slaves_fit (Some (size_range 1 f.min)) above.up.slaves below.up.slaves) _ b.0 in
-          let least : below.up.beat ≤ f.min = leb-true below.up.beat f.min a.1 in
+          let c = both (slaves_fit (Some (size_range 1 f.piece)) above.up.slaves below.up.slaves) _ b.0 in
+          let least : below.up.beat ≤ f.piece = leb-true below.up.beat f.piece a.1 in
           record {
             carries = record {
-              slaves = subst (λ (o : Option SizeRange). All (Shows (option_map (λ fragments. size_range 1 fragments.min) o) (seen below ∷ [])) (seen above ∷ [])) (sym e) (shows (Some (size_range 1 f.min)) c.0);
+              slaves = subst (λ (o : Option Fragments). All (Shows (option_map (λ fragments. size_range 1 fragments.piece) o) (seen below ∷ [])) (seen above ∷ [])) (sym e) (shows (Some (size_range 1 f.piece)) c.0);
               widths = widths_same (eqb-true above.up.beat below.up.beat b.1);
-              arguments = subst (λ (o : Option SizeRange). FillBeats o (seen below ∷ [])) (sym e) (one (λ edge. width_of edge ≤ f.min) (seen below) least);
+              arguments = subst (λ (o : Option Fragments). FillBeats o (seen below ∷ [])) (sym e) (one (λ edge. width_of edge ≤ f.piece) (seen below) least);
             };
             ids = one (LeavesIds Fragmenter args ((seen above).ids ∷ [])) (seen below).ids (ends_same c.1);
           }

@@ -5,6 +5,7 @@ use Rattle.dip_sets.specs.declared.ids.IdRange.{IdRange}
 use Rattle.dip_sets.specs.Assignments.{assigned}
 use Rattle.dip_sets.specs.Sets.{Disjoint}
 use Rattle.dip_sets.specs.SizeRanges.{SizeRange, size_range, is_size_range}
+use Rattle.tl_params.specs.declared.arguments.Fragments.{Fragments}
 use Rattle.tl_params.specs.declared.ops.Op.{Op}
 use Rattle.tl_params.specs.declared.ops.Template.{Template}
 use Rattle.tl_params.specs.declared.ops.Template.TheVariants.{Width, Fragmenter, Shrinker, Xbar}
@@ -56,7 +57,7 @@ HasShape _ ins outs = (length ins ≡ 1) × (length outs ≡ 1)
 
 -- the sizes that a fragmenter lets pass whole; the larger ones it cuts
 abbrev pub pieces_of : Template → List ℕ → Option SizeRange
-pieces_of Fragmenter args = option_map (λ fragments. size_range 1 fragments.min) (fragment_arguments args)
+pieces_of Fragmenter args = option_map (λ fragments. size_range 1 fragments.piece) (fragment_arguments args)
 pieces_of _ args = None
 
 -- an edge shows the slaves of others in order, and promises no more than they support, or than can be cut into what
@@ -70,9 +71,9 @@ WidthsAgree Width edges = All (λ edge. IsTrue (is_width (width_of edge))) edges
 WidthsAgree _ edges = AllPairs (λ edge other. width_of edge ≡ width_of other) edges
 
 -- a fragmenter's pieces have at least the bytes of one beat of what they go to
-abbrev pub FillBeats : Option SizeRange → List PlanEdge → Type 0
+abbrev pub FillBeats : Option Fragments → List PlanEdge → Type 0
 FillBeats None outs = ⊥
-FillBeats (Some fragments) outs = All (λ edge. width_of edge ≤ fragments.min) outs
+FillBeats (Some fragments) outs = All (λ edge. width_of edge ≤ fragments.piece) outs
 
 -- the arguments of a leaf are such as its template takes, and fit its out edges
 abbrev pub ArgumentsAgree : Template → List ℕ → List PlanEdge → Type 0

@@ -11,14 +11,29 @@ pub fn is_width(bytes: u32) -> bool
     matches!(bytes, 1 | 2 | 4 | 8)
 }
 
-/// A fragmenter's arguments, the bytes of a piece and of the largest transfer, as the sizes from the one to
-/// the other; `None` exactly where they aren't two powers of two in order, at most 256.
-pub fn fragment_arguments(args: &Args) -> Option<Sizes>
+/// What a fragmenter's arguments state, in bytes.
+#[derive(Clone, Copy, Debug, PartialEq, Eq)]
+pub struct Fragments {
+    /// A piece, as which larger transfers go on.
+    pub piece: u32,
+    /// The largest transfer that is taken.
+    pub largest: u32,
+}
+
+/// A fragmenter's arguments, a piece and the largest transfer; `None` exactly where they aren't two powers of
+/// two in order, at most 256.
+pub fn fragment_arguments(args: &Args) -> Option<Fragments>
     ensures value { result ≡ spec.fragment_arguments args.now }
     ensures sizes { IfSome result spec.AreFragments }
 {
     match args.as_slice() {
-        [piece, largest] => Sizes::new(*piece, *largest),
+        [piece, largest] => {
+            let sizes = Sizes::new(*piece, *largest)?;
+            Some(Fragments {
+                piece: sizes.min(),
+                largest: sizes.max(),
+            })
+        }
         _ => None,
     }
 }

@@ -7,7 +7,7 @@ mod laws;
 mod ops;
 mod ports;
 
-pub use arguments::{fragment_arguments, is_width, shrink_argument};
+pub use arguments::{Fragments, fragment_arguments, is_width, shrink_argument};
 pub use codes::{ack_of_code, code_of_ack, code_of_op, op_of_code};
 pub use laws::{
     carried_law, codes_law, joined_owners_law, one_owner_law, only_owner_law, owner_law,

@@ -11,6 +11,7 @@ use Rattle.tl_params.specs.declared.ports.Slave.{Slave}
 use Rattle.tl_params.specs.declared.ports.DownPort.{DownPort}
 use Rattle.tl_params.specs.declared.ports.UpPort.{UpPort}
 use Rattle.tl_rules.specs.Refusals.{with_arguments}
+use Rattle.tl_params.specs.declared.arguments.Fragments.{Fragments}
 use Rattle.tl_params.specs.Arguments.{is_width, fragment_arguments, shrink_argument}
 use Rattle.tl_rules.specs.Adapters.{width_argument, buffer_down, buffer_up, width_down, width_up}
 use Rattle.tl_rules.specs.Fragments.{widened, widened_slave, cut_master, fragmenter_down, fragmenter_up}
@@ -75,23 +76,23 @@ none_within s t piece none = elim (nat_le (max s.min 1) (min s.max piece)) as (�
       | false ↦ λ e. refl
     ] refl
 
-widened_fits : (f s : SizeRange) → sizes_fit (Some (size_range 1 f.min)) (widened f s) s ≡ true
-widened_fits f s = elim (has_size s f.min) as (λ b. has_size s f.min ≡ b
-    → fits_pieces (size_range 1 f.min) (cond b (size_range s.min (max s.max f.max)) (meet s (size_range 1 f.min))) s ≡ true) [
+widened_fits : (f : Fragments) (s : SizeRange) → sizes_fit (Some (size_range 1 f.piece)) (widened f s) s ≡ true
+widened_fits f s = elim (has_size s f.piece) as (λ b. has_size s f.piece ≡ b
+    → fits_pieces (size_range 1 f.piece) (cond b (size_range s.min (max s.max f.largest)) (meet s (size_range 1 f.piece))) s ≡ true) [
       | true ↦ λ e.
-          let piece = (has_size_is s f.min).0 e in
-          and_true _ _ (meet_within (size_range s.min (max s.max f.max)) s f.min (omega arith) (omega (arith, piece.2))) (or_true _ _ (inr e))
+          let piece = (has_size_is s f.piece).0 e in
+          and_true _ _ (meet_within (size_range s.min (max s.max f.largest)) s f.piece (omega arith) (omega (arith, piece.2))) (or_true _ _ (inr e))
       | false ↦ λ e.
-          let small = meet_small s f.min in
+          let small = meet_small s f.piece in
           and_true _ _
           (elim small.1 [
-            | inl lower ↦ meet_within (meet s (size_range 1 f.min)) s f.min lower (omega (arith, small.2))
-            | inr none ↦ none_within (meet s (size_range 1 f.min)) s f.min none
+            | inl lower ↦ meet_within (meet s (size_range 1 f.piece)) s f.piece lower (omega (arith, small.2))
+            | inr none ↦ none_within (meet s (size_range 1 f.piece)) s f.piece none
           ])
-          (or_true _ _ (inl (le-leb (meet s (size_range 1 f.min)).max f.min small.0)))
+          (or_true _ _ (inl (le-leb (meet s (size_range 1 f.piece)).max f.piece small.0)))
     ] refl
 
-widened_slaves : (f : SizeRange) (ss : List Slave) → slaves_fit (Some (size_range 1 f.min)) (map (widened_slave f) ss) ss ≡ true
+widened_slaves : (f : Fragments) (ss : List Slave) → slaves_fit (Some (size_range 1 f.piece)) (map (widened_slave f) ss) ss ≡ true
 widened_slaves f [] = refl
 widened_slaves f (s ∷ ss) =
     let ops = and_true _ _ (and_true _ _ (and_true _ _ (and_true _ _ (and_true _ _ (widened_fits f s.supports.get) (widened_fits f s.supports.put_full)) (widened_fits f s.supports.put_partial))
@@ -137,12 +138,12 @@ width_fits args down below up above p q narrow =
     let (v, f, wide) = from_arguments (width_argument args) _ above q in
     rw (← ok_same same, ← ok_same wide) (and_true _ _ (and_true _ _ (and_true _ _ (own_slaves up.slaves) (own_masters down.masters)) (width_is args v f)) narrow)
 
-fragmenter_fits : (args : List ℕ) (fragments : SizeRange) (down below : DownPort) (up above : UpPort) → fragment_arguments args ≡ Some fragments
+fragmenter_fits : (args : List ℕ) (fragments : Fragments) (down below : DownPort) (up above : UpPort) → fragment_arguments args ≡ Some fragments
     → fragmenter_down args (down ∷ []) ≡ Ok below → fragmenter_up args (up ∷ []) ≡ Ok above
-    → up.beat ≤ fragments.min → IsTrue (adapter_fits Fragmenter args (edge_ports down above) (edge_ports below up))
+    → up.beat ≤ fragments.piece → IsTrue (adapter_fits Fragmenter args (edge_ports down above) (edge_ports below up))
 fragmenter_fits args f down below up above e p q small =
     rw (e, ← ok_same (rw e at p), ← ok_same (rw e at q))
-    (and_true _ _ (and_true _ _ (and_true _ _ (widened_slaves f up.slaves) (cut_ids f.min down.masters)) (own_number up.beat)) (le-leb up.beat f.min small))
+    (and_true _ _ (and_true _ _ (and_true _ _ (widened_slaves f up.slaves) (cut_ids f.piece down.masters)) (own_number up.beat)) (le-leb up.beat f.piece small))
 
 shrinker_fits : (args : List ℕ) (down below : DownPort) (up above : UpPort) → shrinker_down args (down ∷ []) ≡ Ok below → shrinker_up args (up ∷ []) ≡ Ok above
     → IsTrue (adapter_fits Shrinker args (edge_ports down above) (edge_ports below up))

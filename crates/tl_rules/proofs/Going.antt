@@ -6,6 +6,7 @@ use Rattle.std.proofs.lemmas.Bool.Decides.{Decides-eqb}
 use Rattle.dip_sets.specs.SizeRanges.{SizeRange, size_range, is_size_range, IsSizePair, HasSize, has_size, is_within, meet, no_sizes}
 use Rattle.dip_sets.proofs.Powers.{power_pos}
 use Rattle.dip_sets.proofs.Ranges.{size_pair_is, range_cases, has_size_is, within_is, least_power}
+use Rattle.tl_params.specs.declared.arguments.Fragments.{Fragments}
 use Rattle.tl_params.specs.Arguments.{AreFragments}
 use Rattle.tl_rules.specs.Fragments.{cut, widened}
 use Rattle.tl_params.specs.Carried.{fits_pieces}
@@ -140,29 +141,29 @@ arrives_cut piece s power range bytes = elim (s.max == 0) as (λ b. (s.max == 0)
 
 -- ---- what is shown
 
-shown_goes_on : (f s : SizeRange) → GoOn f.min (widened f s) s
-shown_goes_on f s bytes = elim (has_size s f.min) as (λ b. has_size s f.min ≡ b
-    → HasSize (cond b (size_range s.min (max s.max f.max)) (meet s (size_range 1 f.min))) bytes → (bytes ≤ f.min → HasSize s bytes) × (f.min < bytes → HasSize s f.min)) [
+shown_goes_on : (f : Fragments) (s : SizeRange) → GoOn f.piece (widened f s) s
+shown_goes_on f s bytes = elim (has_size s f.piece) as (λ b. has_size s f.piece ≡ b
+    → HasSize (cond b (size_range s.min (max s.max f.largest)) (meet s (size_range 1 f.piece))) bytes → (bytes ≤ f.piece → HasSize s bytes) × (f.piece < bytes → HasSize s f.piece)) [
       | true ↦ λ e (power, lower, upper).
-          let piece = (has_size_is s f.min).0 e in
+          let piece = (has_size_is s f.piece).0 e in
           (λ below. (power, lower, omega (arith, piece.2)), λ above. piece)
       | false ↦ λ e has.
-          let own = (small_sizes s f.min bytes).0 has in
+          let own = (small_sizes s f.piece bytes).0 has in
           (λ below. own.0, λ above. absurd (omega (arith, own.1)))
     ] refl
 
-largest_shown : (f s : SizeRange) → AreFragments f → HasSize s f.min → HasSize (widened f s) f.max
+largest_shown : (f : Fragments) (s : SizeRange) → AreFragments f → HasSize s f.piece → HasSize (widened f s) f.largest
 largest_shown f s h (power, lower, upper) =
-    let pair = (size_pair_is f.min f.max).0 h in
-    let order : f.min ≤ f.max = pair.3 in
-    let holds : has_size s f.min ≡ true = (has_size_is s f.min).1 (power, lower, upper) in
-    let wide : HasSize (size_range s.min (max s.max f.max)) f.max = (pair.1, omega arith, omega arith) in
+    let pair = (size_pair_is f.piece f.largest).0 h in
+    let order : f.piece ≤ f.largest = pair.3 in
+    let holds : has_size s f.piece ≡ true = (has_size_is s f.piece).1 (power, lower, upper) in
+    let wide : HasSize (size_range s.min (max s.max f.largest)) f.largest = (pair.1, omega arith, omega arith) in
     rw holds wide
 
 pub pieces_law : PiecesLaw
 pieces_law = record {
-  goes_on = λ f s t h range. let power = ((size_pair_is f.min f.max).0 h).0 in (fits_to f.min s t power range, fits_from f.min s t power range);
-  arrive = λ f s h range. arrives_cut f.min s ((size_pair_is f.min f.max).0 h).0 range;
+  goes_on = λ f s t h range. let power = ((size_pair_is f.piece f.largest).0 h).0 in (fits_to f.piece s t power range, fits_from f.piece s t power range);
+  arrive = λ f s h range. arrives_cut f.piece s ((size_pair_is f.piece f.largest).0 h).0 range;
   shown = shown_goes_on;
   largest = largest_shown;
 }

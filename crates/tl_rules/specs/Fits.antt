@@ -1,7 +1,7 @@
 -- Whether what is built for a node fits the ports of its edges: it can carry what they agree on.
 use Rattle.std.specs.Prelude.{ℕ, List, [], ◌∷◌, map, length, Bool, false, ◌&&◌, ◌==◌, nat_lt, nat_le, cond, Option, Some, None, slice_get, unwrap_or}
 use Rattle.std.specs.List.{list_all, flat_map}
-use Rattle.dip_sets.specs.SizeRanges.{SizeRange, size_range}
+use Rattle.dip_sets.specs.SizeRanges.{size_range}
 use Rattle.tl_params.specs.Operations.{is_nexus}
 use Rattle.tl_params.specs.declared.ops.Template.{Template}
 use Rattle.tl_params.specs.declared.ops.Template.TheVariants.{Buffer, Width, Fragmenter, Shrinker, Xbar}
@@ -9,6 +9,7 @@ use Rattle.tl_params.specs.declared.ports.Master.{Master}
 use Rattle.tl_params.specs.declared.ports.DownPort.{DownPort}
 use Rattle.tl_params.specs.declared.ports.UpPort.{UpPort}
 use Rattle.tl_params.specs.Carried.{all_zip, slaves_fit}
+use Rattle.tl_params.specs.declared.arguments.Fragments.{Fragments}
 use Rattle.tl_params.specs.Arguments.{is_width, fragment_arguments, shrink_argument}
 use Rattle.tl_rules.specs.Crossbars.{id_count, is_id_count, input_ranges, joined_masters}
 
@@ -41,13 +42,13 @@ edge_ports down up = record { down = down; up = up }
 
 -- a fragmenter between an in edge and an out edge, if its arguments are right: its pieces have at least the bytes of
 -- one beat
-abbrev pub fragments_fit : Option SizeRange → EdgePorts → EdgePorts → Bool
+abbrev pub fragments_fit : Option Fragments → EdgePorts → EdgePorts → Bool
 fragments_fit None above below = false
 fragments_fit (Some fragments) above below =
-    slaves_fit (Some (size_range 1 fragments.min)) above.up.slaves below.up.slaves
+    slaves_fit (Some (size_range 1 fragments.piece)) above.up.slaves below.up.slaves
     && same_ids above.down.masters below.down.masters
     && above.up.beat == below.up.beat
-    && nat_le below.up.beat fragments.min
+    && nat_le below.up.beat fragments.piece
 
 -- a shrinker between them, if its argument is right
 abbrev pub shrinks_fit : Option ℕ → EdgePorts → EdgePorts → Bool

@@ -8,6 +8,7 @@ use Rattle.tl_params.specs.declared.ports.Master.{Master}
 use Rattle.tl_params.specs.declared.ports.Slave.{Slave}
 use Rattle.tl_params.specs.declared.ports.DownPort.{DownPort}
 use Rattle.tl_params.specs.declared.ports.UpPort.{UpPort}
+use Rattle.tl_params.specs.declared.arguments.Fragments.{Fragments}
 use Rattle.tl_params.specs.Arguments.{fragment_arguments}
 use Rattle.tl_rules.specs.Refusals.{only, with_arguments, with_port}
 
@@ -18,9 +19,9 @@ cut piece s =
 
 -- sizes before the fragmenter: all up to the largest transfer where pieces can go on, and else those that need no
 -- cutting
-abbrev pub widened : SizeRange → SizeRange → SizeRange
+abbrev pub widened : Fragments → SizeRange → SizeRange
 widened fragments s =
-    cond (has_size s fragments.min) (size_range s.min (max s.max fragments.max)) (meet s (size_range 1 fragments.min))
+    cond (has_size s fragments.piece) (size_range s.min (max s.max fragments.largest)) (meet s (size_range 1 fragments.piece))
 
 -- operations behind the fragmenter
 abbrev pub cut_ops : ℕ → Ops → Ops
@@ -35,7 +36,7 @@ cut_ops piece ops =
     }
 
 -- operations before the fragmenter
-abbrev pub widened_ops : SizeRange → Ops → Ops
+abbrev pub widened_ops : Fragments → Ops → Ops
 widened_ops fragments ops =
     record {
       get = widened fragments ops.get;
@@ -51,7 +52,7 @@ abbrev pub cut_master : ℕ → Master → Master
 cut_master piece m = record { node = m.node; port = m.port; ids = m.ids; emits = cut_ops piece m.emits }
 
 -- a slave as it shows before the fragmenter
-abbrev pub widened_slave : SizeRange → Slave → Slave
+abbrev pub widened_slave : Fragments → Slave → Slave
 widened_slave fragments s =
     record { node = s.node; port = s.port; addresses = s.addresses; supports = widened_ops fragments s.supports }
 
@@ -60,14 +61,14 @@ abbrev pub cut_port : ℕ → DownPort → DownPort
 cut_port piece port = record { masters = map (cut_master piece) port.masters }
 
 -- what goes up before the fragmenter
-abbrev pub widened_port : SizeRange → UpPort → UpPort
+abbrev pub widened_port : Fragments → UpPort → UpPort
 widened_port fragments port = record { slaves = map (widened_slave fragments) port.slaves; beat = port.beat }
 
 -- what it states down
 abbrev pub fragmenter_down : StatedAnswer DownPort
 fragmenter_down args ins =
     with_arguments (fragment_arguments args)
-    (λ fragments. with_port (only ins) (λ port. Ok (cut_port fragments.min port)))
+    (λ fragments. with_port (only ins) (λ port. Ok (cut_port fragments.piece port)))
 
 -- what it states up
 abbrev pub fragmenter_up : StatedAnswer UpPort

@@ -1,6 +1,7 @@
 -- What a fragmenter's sizes are good for: what it takes goes on as it is or in pieces, and what its rule shows fits it.
 use Rattle.std.specs.Prelude.{ℕ, ◌≡◌, ◌<◌, ◌≤◌, ◌↔◌, ◌⊎◌, IsTrue}
 use Rattle.dip_sets.specs.SizeRanges.{SizeRange, size_range, is_size_range, HasSize}
+use Rattle.tl_params.specs.declared.arguments.Fragments.{Fragments}
 use Rattle.tl_params.specs.Arguments.{AreFragments}
 use Rattle.tl_rules.specs.Fragments.{cut, widened}
 use Rattle.tl_params.specs.Carried.{fits_pieces}
@@ -18,12 +19,12 @@ Arrives piece s bytes =
 -- what the sizes of a fragmenter with right arguments are good for
 pub record PiecesLaw : Type 0 where
   -- the test on sizes says that they can go on
-  pub goes_on : (fragments s t : SizeRange) → AreFragments fragments → IsTrue (is_size_range s)
-      → IsTrue (fits_pieces (size_range 1 fragments.min) s t) ↔ GoOn fragments.min s t
+  pub goes_on : (fragments : Fragments) (s t : SizeRange) → AreFragments fragments → IsTrue (is_size_range s)
+      → IsTrue (fits_pieces (size_range 1 fragments.piece) s t) ↔ GoOn fragments.piece s t
   -- the sizes behind a fragmenter are those that arrive
-  pub arrive : (fragments s : SizeRange) → AreFragments fragments → IsTrue (is_size_range s) → (bytes : ℕ)
-      → HasSize (cut fragments.min s) bytes ↔ Arrives fragments.min s bytes
+  pub arrive : (fragments : Fragments) (s : SizeRange) → AreFragments fragments → IsTrue (is_size_range s) → (bytes : ℕ)
+      → HasSize (cut fragments.piece s) bytes ↔ Arrives fragments.piece s bytes
   -- the sizes that its rule shows before it can go on, up to the largest transfer where a piece can
-  pub shown : (fragments s : SizeRange) → GoOn fragments.min (widened fragments s) s
-  pub largest : (fragments s : SizeRange) → AreFragments fragments → HasSize s fragments.min
-      → HasSize (widened fragments s) fragments.max
+  pub shown : (fragments : Fragments) (s : SizeRange) → GoOn fragments.piece (widened fragments s) s
+  pub largest : (fragments : Fragments) (s : SizeRange) → AreFragments fragments → HasSize s fragments.piece
+      → HasSize (widened fragments s) fragments.largest

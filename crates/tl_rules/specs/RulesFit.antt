@@ -1,10 +1,10 @@
 -- The standard rules and what is built belong together: the ports that a rule answers fit its template, where the bus
 -- below a width adapter has an allowed width and a piece of a fragmenter at least one beat.
 use Rattle.std.specs.Prelude.{ℕ, ◌≡◌, ◌≤◌, List, [], ◌∷◌, map, ◌&&◌, IsTrue, Some, Ok}
-use Rattle.dip_sets.specs.SizeRanges.{SizeRange}
 use Rattle.tl_params.specs.declared.ops.Template.TheVariants.{Buffer, Width, Fragmenter, Shrinker}
 use Rattle.tl_params.specs.declared.ports.DownPort.{DownPort}
 use Rattle.tl_params.specs.declared.ports.UpPort.{UpPort}
+use Rattle.tl_params.specs.declared.arguments.Fragments.{Fragments}
 use Rattle.tl_params.specs.Arguments.{is_width, fragment_arguments}
 use Rattle.tl_rules.specs.Adapters.{buffer_down, buffer_up, width_down, width_up}
 use Rattle.tl_rules.specs.Fragments.{fragmenter_down, fragmenter_up}
@@ -24,10 +24,10 @@ pub record RulesFitLaw : Type 0 where
       → IsTrue (is_width up.beat)
       → IsTrue (adapter_fits Width args (edge_ports down above) (edge_ports below up))
   -- where a piece has at least the bytes of one beat
-  pub fragmenter : (args : List ℕ) (fragments : SizeRange) (down below : DownPort) (up above : UpPort)
+  pub fragmenter : (args : List ℕ) (fragments : Fragments) (down below : DownPort) (up above : UpPort)
       → fragment_arguments args ≡ Some fragments
       → fragmenter_down args (down ∷ []) ≡ Ok below → fragmenter_up args (up ∷ []) ≡ Ok above
-      → up.beat ≤ fragments.min
+      → up.beat ≤ fragments.piece
       → IsTrue (adapter_fits Fragmenter args (edge_ports down above) (edge_ports below up))
   pub shrinker : (args : List ℕ) (down below : DownPort) (up above : UpPort)
       → shrinker_down args (down ∷ []) ≡ Ok below → shrinker_up args (up ∷ []) ≡ Ok above

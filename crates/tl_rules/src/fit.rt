@@ -151,7 +151,7 @@ fn fragments_fit(
         below_up.slaves.as_slice(),
     ) && masters_agree(above_down, below_down)
         && above_up.beat == below_up.beat
-        && below_up.beat <= fragments.min()
+        && below_up.beat <= fragments.piece
 }
 
 // Whether a shrinker with this argument does.

@@ -1,6 +1,6 @@
 ghost use Rattle.std.specs.Prelude.{◌≡◌, map, IfOk};
 ghost use Rattle.dip_rule.specs.Stated.{Answers};
-ghost use Rattle.dip_sets.specs.SizeRanges.{size_range};
+ghost use Rattle.dip_sets.specs.SizeRanges.{size_range, IsSizePair};
 ghost use Rattle.tl_params.specs.Arguments as arguments;
 ghost use Rattle.tl_rules.specs.Fragments as spec;
 
@@ -9,49 +9,58 @@ use dip_lists::{Duplicate, Items, Memory};
 use dip_rule::RuleFault;
 use dip_sets::Sizes;
 use std::alloc::Global;
-use tl_params::{Args, DownPort, Master, Masters, Ops, Slave, Slaves, UpPort, fragment_arguments};
+use tl_params::{
+    Args, DownPort, Fragments, Master, Masters, Ops, Slave, Slaves, UpPort, fragment_arguments,
+};
 
-/// The sizes that need no cutting: those from 1 to a piece.
-pub fn up_to_piece(fragments: &Sizes) -> Sizes
-    requires { arguments.AreFragments fragments.now }
-    ensures { result ≡ size_range 1 fragments.now.min }
+// The sizes from a least to a greatest one.
+fn sizes_between(least: u32, greatest: u32) -> Sizes
+    requires { IsSizePair least greatest }
+    ensures { result ≡ size_range least greatest }
 {
-    match Sizes::new(1, fragments.min()) {
+    match Sizes::new(least, greatest) {
         Some(sizes) => sizes,
-        None => *fragments,
+        None => Sizes::none(),
     }
 }
 
-// Sizes behind the fragmenter.
-fn cut(fragments: &Sizes, sizes: &Sizes) -> Sizes
+/// The sizes that need no cutting: those from 1 to a piece.
+pub fn up_to_piece(fragments: &Fragments) -> Sizes
     requires { arguments.AreFragments fragments.now }
-    ensures { result ≡ spec.cut fragments.now.min sizes.now }
+    ensures { result ≡ size_range 1 fragments.now.piece }
+{
+    sizes_between(1, fragments.piece)
+}
+
+// Sizes behind the fragmenter.
+fn cut(fragments: &Fragments, sizes: &Sizes) -> Sizes
+    requires { arguments.AreFragments fragments.now }
+    ensures { result ≡ spec.cut fragments.now.piece sizes.now }
 {
     if sizes.max() == 0 {
         return *sizes;
     }
-    let uncut = up_to_piece(fragments);
-    if fragments.min() < sizes.min() {
-        return fragments.meet(&uncut);
+    if fragments.piece < sizes.min() {
+        return sizes_between(fragments.piece, fragments.piece);
     }
-    sizes.meet(&uncut)
+    sizes.meet(&up_to_piece(fragments))
 }
 
 // Sizes before the fragmenter.
-fn widened(fragments: &Sizes, sizes: &Sizes) -> Sizes
+fn widened(fragments: &Fragments, sizes: &Sizes) -> Sizes
     requires { arguments.AreFragments fragments.now }
     ensures { result ≡ spec.widened fragments.now sizes.now }
 {
-    if sizes.contains(fragments.min()) {
-        return sizes.cover(fragments);
+    if sizes.contains(fragments.piece) {
+        return sizes.cover(&sizes_between(fragments.piece, fragments.largest));
     }
     sizes.meet(&up_to_piece(fragments))
 }
 
 // Operations behind the fragmenter: gets and puts are cut, atomics and intents pass whole.
-fn cut_ops(fragments: &Sizes, ops: &Ops) -> Ops
+fn cut_ops(fragments: &Fragments, ops: &Ops) -> Ops
     requires { arguments.AreFragments fragments.now }
-    ensures { result ≡ spec.cut_ops fragments.now.min ops.now }
+    ensures { result ≡ spec.cut_ops fragments.now.piece ops.now }
 {
     Ops {
         get: cut(fragments, &ops.get),
@@ -62,7 +71,7 @@ fn cut_ops(fragments: &Sizes, ops: &Ops) -> Ops
 }
 
 // Operations before the fragmenter: gets and puts are widened, atomics and intents stay.
-fn widened_ops(fragments: &Sizes, ops: &Ops) -> Ops
+fn widened_ops(fragments: &Fragments, ops: &Ops) -> Ops
     requires { arguments.AreFragments fragments.now }
     ensures { result ≡ spec.widened_ops fragments.now ops.now }
 {
@@ -75,9 +84,9 @@ fn widened_ops(fragments: &Sizes, ops: &Ops) -> Ops
 }
 
 // The masters behind the fragmenter.
-fn cut_masters(alloc: Global, fragments: &Sizes, masters: &[Master]) -> Result<Masters, Memory>
+fn cut_masters(alloc: Global, fragments: &Fragments, masters: &[Master]) -> Result<Masters, Memory>
     requires { arguments.AreFragments fragments.now }
-    ensures { IfOk result (λ cut. cut ≡ map (spec.cut_master fragments.now.min) masters.now) }
+    ensures { IfOk result (λ cut. cut ≡ map (spec.cut_master fragments.now.piece) masters.now) }
 {
     let mut cut = Items::new(alloc);
     for master in masters {
@@ -92,7 +101,7 @@ fn cut_masters(alloc: Global, fragments: &Sizes, masters: &[Master]) -> Result<M
 }
 
 // A slave as it shows before the fragmenter.
-fn widened_slave(alloc: Global, fragments: &Sizes, slave: &Slave) -> Result<Slave, Memory>
+fn widened_slave(alloc: Global, fragments: &Fragments, slave: &Slave) -> Result<Slave, Memory>
     requires { arguments.AreFragments fragments.now }
     ensures { IfOk result (λ wide. wide ≡ spec.widened_slave fragments.now slave.now) }
 {
@@ -105,7 +114,7 @@ fn widened_slave(alloc: Global, fragments: &Sizes, slave: &Slave) -> Result<Slav
 }
 
 // The slaves as they show before the fragmenter.
-fn widened_slaves(alloc: Global, fragments: &Sizes, slaves: &[Slave]) -> Result<Slaves, Memory>
+fn widened_slaves(alloc: Global, fragments: &Fragments, slaves: &[Slave]) -> Result<Slaves, Memory>
     requires { arguments.AreFragments fragments.now }
     ensures { IfOk result (λ wide. wide ≡ map (spec.widened_slave fragments.now) slaves.now) }
 {
@@ -117,16 +126,16 @@ fn widened_slaves(alloc: Global, fragments: &Sizes, slaves: &[Slave]) -> Result<
 }
 
 // What goes down behind the fragmenter.
-fn cut_port(alloc: Global, fragments: &Sizes, port: &DownPort) -> Result<DownPort, Memory>
+fn cut_port(alloc: Global, fragments: &Fragments, port: &DownPort) -> Result<DownPort, Memory>
     requires { arguments.AreFragments fragments.now }
-    ensures { IfOk result (λ cut. cut ≡ spec.cut_port fragments.now.min port.now) }
+    ensures { IfOk result (λ cut. cut ≡ spec.cut_port fragments.now.piece port.now) }
 {
     let masters = cut_masters(alloc, fragments, port.masters.as_slice())?;
     Ok(DownPort { masters })
 }
 
 // What goes up before the fragmenter.
-fn widened_port(alloc: Global, fragments: &Sizes, port: &UpPort) -> Result<UpPort, Memory>
+fn widened_port(alloc: Global, fragments: &Fragments, port: &UpPort) -> Result<UpPort, Memory>
     requires { arguments.AreFragments fragments.now }
     ensures { IfOk result (λ wide. wide ≡ spec.widened_port fragments.now port.now) }
 {

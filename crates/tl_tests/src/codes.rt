@@ -75,7 +75,7 @@ fn args_of(alloc: Global, rest: &str) -> Result<Args, Memory> {
 /// The bytes of a piece and of the largest transfer that a fragmenter's arguments state.
 pub fn fragments(alloc: Global, rest: &str, text: &mut String) -> Result<(), Memory> {
     match fragment_arguments(&args_of(alloc, rest)?) {
-        Some(sizes) => Ok(write!(text, " {} {}", sizes.min(), sizes.max())?),
+        Some(fragments) => Ok(write!(text, " {} {}", fragments.piece, fragments.largest)?),
         None => say(text, "-"),
     }
 }

@@ -1,8 +1,5 @@
 use Rattle.tl_rules.proofs.Fragmenting.{small_pair}
 use Rattle.tl_rules.proofs.fragmenter.up_to_piece.Goals as goal
 
-pub returns-in-None : goal.returns-in-None
-returns-in-None c =
-    let some = c.new.ensures.pair.1 (small_pair c.args.fragments.now c.min.result c.requires c.min.ensures.value) in
-    let never = rw c.in-None.is at some in
-    cc
+pub sizes_between-requires : goal.sizes_between-requires
+sizes_between-requires c = small_pair c.args.fragments.now c.requires
