@@ -1,3 +1,5 @@
+ghost use Rattle.dip_graph.specs.WellStated.{IsWellStated};
+
 use dip_graph::{Design, Fault};
 use dip_plan::{Accepted, check};
 use soc_design::read_design;
@@ -38,7 +40,10 @@ fn show_leaf(rt: &HostRuntime, leaf: &Leaf) -> io::Result<()> {
 
 fn show_edge(rt: &HostRuntime, edge: &PlanEdge) -> io::Result<()> {
     let bundle = edge.bundle;
-    print!(rt; "edge bytes {} address {}", bundle.data_bytes, bundle.address_bits)?;
+    print!(rt;
+        "edge bytes {} address {}",
+        bundle.data_bytes, bundle.address_bits
+    )?;
     print!(rt; " source {} size {}", bundle.source_bits, bundle.size_bits)?;
     print!(rt; " ids {} slaves", edge.ids)?;
     for slave in edge.slaves.as_slice() {
@@ -73,7 +78,9 @@ fn show_accepted(rt: &HostRuntime, accepted: &Accepted) -> io::Result<()> {
 }
 
 // What the design of a file has, by the standard rules.
-fn accepted_of(alloc: Global, design: &Design) -> Result<Accepted, Fault> {
+fn accepted_of(alloc: Global, design: &Design) -> Result<Accepted, Fault>
+    requires { IsWellStated design.now }
+{
     let rules = boxed_standard_rules!(alloc);
     check(alloc, design, &rules)
 }
