@@ -1,13 +1,10 @@
 -- What is known of a design whose checks pass, node by node and edge by edge.
-use Rattle.std.specs.Prelude.{ℕ, ◌≡◌, ◌≤◌, ◌<◌, List, length, true, false, Some, None, slice_get, All, AllPairs, IsTrue}
+use Rattle.std.specs.Prelude.{ℕ, ◌≡◌, ◌≤◌, ◌<◌, List, length, true, false, Some, None, slice_get, All}
 use Rattle.dip_lists.specs.First.{first_failing}
-use Rattle.dip_sets.specs.Sets.{Pattern, IsSet}
 use Rattle.tl_params.specs.declared.ops.Template.{Template}
 use Rattle.tl_params.specs.declared.ports.DownPort.{DownPort}
 use Rattle.tl_params.specs.declared.ports.UpPort.{UpPort}
-use Rattle.tl_params.specs.Arguments.{is_width}
-use Rattle.dip_graph.specs.declared.design.NodeKind.{NodeKind}
-use Rattle.dip_graph.specs.declared.design.NodeKind.TheVariants.{Source, Sink, Ruled}
+use Rattle.dip_graph.specs.declared.design.NodeKind.TheVariants.{Ruled}
 use Rattle.dip_graph.specs.declared.design.NodeEntry.{NodeEntry}
 use Rattle.dip_graph.specs.declared.design.Design.{Design}
 use Rattle.dip_graph.specs.declared.edges.Edge.{Edge}

@@ -1,6 +1,6 @@
 -- Members of lists, and the places at which tests hold.
 use Rattle.std.proofs.Common.{◌≡◌, ℕ, zero, suc, ◌+◌, Bool, true, false, cond, List, [], ◌∷◌, Some, refl, sym, ap, ◌∙◌, arith, inl, inr}
-use Rattle.std.specs.Prelude.{slice_get, Contains, AllPairs}
+use Rattle.std.specs.Prelude.{slice_get, AllPairs}
 use Rattle.dip_lists.specs.First.{places}
 use Rattle.tl_owners.proofs.Members.{In}
 

@@ -22,7 +22,7 @@ use Rattle.dip_plan.specs.DesignPlans.{ports_on, source_ports, sink_ports, ports
 use Rattle.dip_plan.specs.SoundLaw.{HasSizes}
 use Rattle.dip_plan.specs.Standing.{source_count, sink_count, HasPort, IsPortAt, ArePorts, IsEdgeOf, StandsTo}
 use Rattle.dip_lists.specs.First.{first_failing}
-use Rattle.tl_edge.specs.Legal.{IsLegal, IsLegalOn, IsLegalAt}
+use Rattle.tl_edge.specs.Legal.{IsLegal, IsLegalOn}
 use Rattle.tl_edge.specs.Plans.{no_edge}
 use Rattle.tl_edge.proofs.Legality.{legal_law}
 use Rattle.dip_checks.specs.declared.agreed.Agreed.{Agreed}
@@ -114,10 +114,14 @@ module _ (rules : List StatedRule) (design : Design) (edges : List Edge) (soluti
           let first : 0 + p ≡ p = omega arith in
           let edge : ℕ = get_or (edges_from n edges) p 0 in
           let own : PlanPort = port_on h.entry.name (0 + n) (0 + p) edge in
-          let listed = on_node h.entry.name (0 + n) 0 (edges_from n edges) p edge k in
-          (own, among_nodes source_ports edges 0 design.nodes n h.entry own h.is
-          (subst (λ (kind : NodeKind). Contains (source_ports h.entry.name (0 + n) kind edges) own) (sym e)
-          (subst (λ (m : ℕ). Contains (ports_on h.entry.name (0 + n) 0 (edges_from m edges)) own) from listed)), sym from, first)
+          let listed = on_node h.entry.name (0 + n) 0 (edges_from n edges) p edge k in (
+            own,
+            among_nodes source_ports edges 0 design.nodes n h.entry own h.is
+                (subst (λ (kind : NodeKind). Contains (source_ports h.entry.name (0 + n) kind edges) own) (sym e)
+                (subst (λ (m : ℕ). Contains (ports_on h.entry.name (0 + n) 0 (edges_from m edges)) own) from listed)),
+            sym from,
+            first,
+          )
 
   sources : ArePorts source_count (λ edge. edge.from) (λ edge. edge.from_port) design.nodes edges plan.sources
   sources = record {
@@ -154,10 +158,14 @@ module _ (rules : List StatedRule) (design : Design) (edges : List Edge) (soluti
           let first : 0 + p ≡ p = omega arith in
           let edge : ℕ = get_or (edges_to n edges) p 0 in
           let own : PlanPort = port_on h.entry.name (0 + n) (0 + p) edge in
-          let listed = on_node h.entry.name (0 + n) 0 (edges_to n edges) p edge k in
-          (own, among_nodes sink_ports edges 0 design.nodes n h.entry own h.is
-          (subst (λ (kind : NodeKind). Contains (sink_ports h.entry.name (0 + n) kind edges) own) (sym e)
-          (subst (λ (m : ℕ). Contains (ports_on h.entry.name (0 + n) 0 (edges_to m edges)) own) from listed)), sym from, first)
+          let listed = on_node h.entry.name (0 + n) 0 (edges_to n edges) p edge k in (
+            own,
+            among_nodes sink_ports edges 0 design.nodes n h.entry own h.is
+                (subst (λ (kind : NodeKind). Contains (sink_ports h.entry.name (0 + n) kind edges) own) (sym e)
+                (subst (λ (m : ℕ). Contains (ports_on h.entry.name (0 + n) 0 (edges_to m edges)) own) from listed)),
+            sym from,
+            first,
+          )
 
   sinks : ArePorts sink_count (λ edge. edge.to) (λ edge. edge.to_port) design.nodes edges plan.sinks
   sinks = record {

@@ -51,7 +51,7 @@ use Rattle.tl_params.specs.Owners.{sets_of as all_sets}
 use Rattle.tl_params.specs.Apart.{HasDisjointSets}
 use Rattle.dip_plan.specs.DesignPlans.{kind_leaves, source_ports, sink_ports, plan_edge, plan_edges, plan_of}
 use Rattle.dip_plan.proofs.PlanLaws.{KindHas}
-use Rattle.dip_graph.specs.WellStated.{IsShortName, IsStatedPort, IsStatedKind, IsStatedNode, IsWellStated}
+use Rattle.dip_graph.specs.WellStated.{IsStatedPort, IsStatedKind, IsStatedNode, IsWellStated}
 use Rattle.dip_plan.proofs.Judged.{IsJudged}
 use Rattle.tl_owners.proofs.SoundLeaves.{IsSoundLeaf}
 use Rattle.dip_plan.specs.SoundLaw.{HasSizes, SoundPlanLaw}

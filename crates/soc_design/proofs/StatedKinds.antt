@@ -1,5 +1,5 @@
 -- What is said of the kinds of nodes that a file states: their numbers are within the limits.
-use Rattle.std.proofs.Common.{◌≡◌, ℕ, ◌^◌, ◌<◌, ◌≤◌, ℤ, Bool, true, false, cond, ◌&&◌, ◌==◌, List, [], ◌∷◌, length, nat_le, Option, Some, None, refl, ap, subst, arith}
+use Rattle.std.proofs.Common.{◌≡◌, ℕ, ◌≤◌, ℤ, Bool, true, false, cond, ◌&&◌, ◌==◌, List, [], ◌∷◌, length, nat_le, Option, Some, None, refl, ap, subst, arith}
 use Rattle.std.specs.Prelude.{codes, All, bit_and, pos, negsuc}
 use Rattle.std.specs.Option.{option_map, option_and_then}
 use Rattle.std.specs.Str.{bytes_eq}
@@ -14,7 +14,7 @@ use Rattle.tl_params.specs.declared.ops.Ops.{Ops}
 use Rattle.dip_graph.specs.Limits.{most_name_bytes, most_args, most_ports, most_sets, most_source_ids, most_atomic}
 use Rattle.dip_graph.specs.WellStated.{IsUpTo, IsShortName, HasSmallAtomics, IsStatedPort, IsStatedKind}
 use Rattle.dip_graph.specs.declared.design.NodeKind.{NodeKind}
-use Rattle.dip_graph.specs.declared.design.NodeKind.TheVariants.{Source, Sink, Ruled}
+use Rattle.dip_graph.specs.declared.design.NodeKind.TheVariants.{Ruled}
 use Rattle.toml_shape.specs.Shapes.{short_name, number_within, text_under, name_under, number_under, pair_of, integer_of, table_under}
 use Rattle.soc_design.specs.Limits.{most_transfer, most_address, most_beat}
 use Rattle.soc_design.specs.Stated.{before, all_of, of_length, sizes_of_pair, stated_sizes, operations_in, operations_under, set_of_pair, set_of}

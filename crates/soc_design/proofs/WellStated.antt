@@ -1,5 +1,5 @@
 -- The design that a file states, where its checks pass, is well stated.
-use Rattle.std.proofs.Common.{◌≡◌, ◌≢◌, ℕ, zero, suc, ◌+◌, ◌<◌, ◌≤◌, Bool, true, false, cond, ◌||◌, List, [], ◌∷◌, ◌++◌, length, take, Option, Some, None, Result, Ok, Err, refl, sym, ap, ◌∙◌, subst, arith}
+use Rattle.std.proofs.Common.{◌≡◌, ◌≢◌, ℕ, zero, suc, ◌+◌, ◌<◌, ◌≤◌, Bool, true, false, cond, List, [], ◌∷◌, ◌++◌, length, take, Option, Some, None, Result, Ok, Err, refl, sym, ap, ◌∙◌, subst, arith}
 use Rattle.std.specs.Prelude.{IfOk, unwrap_or, is_none, codes, nat_lt, position, All, AllPairs}
 use Rattle.std.specs.Option.{option_map, option_and_then, option_or}
 use Rattle.std.specs.List.{list_any, position_or_len}
@@ -23,9 +23,9 @@ use Rattle.toml_shape.specs.Shapes.{name_under, number_under, text_under}
 use Rattle.soc_design.specs.declared.limits.Heading.{Heading}
 use Rattle.soc_design.specs.declared.nodes.LimitedNode.{LimitedNode}
 use Rattle.soc_design.specs.Stated.{before, all_of, each_of, kind_of, node_of, heading_of, policy_in, name_at, names_at, module_named, module_under, new_name}
-use Rattle.soc_design.specs.Stated.{module_after, module_at, modules_of, module_of, node_in, placed_node, node_under, bind_of, star_in}
+use Rattle.soc_design.specs.Stated.{module_after, module_at, module_of, node_in, placed_node, node_under, bind_of, star_in}
 use Rattle.soc_design.specs.Reading.{modules_in, nodes_in, binds_in, failing, module_names, node_names, node_is_unnamed, unnamed_modules_in, unnamed_nodes_in, unnamed_binds_in}
-use Rattle.soc_design.specs.Reading.{tree_of, checks_of_tree, file_checks, stated_modules, stated_nodes, stated_binds, design_with, design_of, stated_design}
+use Rattle.soc_design.specs.Reading.{stated_modules, stated_nodes, stated_binds, design_with, design_of}
 use Rattle.soc_design.specs.Reading.{tree_checks, shape_checks, limit_checks, name_checks, heading_name, first_node}
 use Rattle.soc_design.proofs.StatedKinds.{and_then, then_map, if_some, each, short, right_kind}
 
@@ -114,7 +114,7 @@ unlike modules some earlier place entry (item d ds) nodes all l s e f =
 
     at : (o : Option NodeEntry) (rest : Option (List NodeEntry)) → placed_node modules d ≡ o → all_of (placed_node modules) ds ≡ rest → before o rest ≡ Some nodes
         → ((x : List ℕ) (rest : List NodeEntry) → Unit {0} → all ≡ (earlier ++ x ∷ []) ++ Names rest → all_of (placed_node modules) ds ≡ Some rest
-            → failing (node_is_unnamed modules all) (place + 1) (entry + 1) ds ≡ [] → Unlike (earlier ++ x ∷ []) (Names rest))
+        → failing (node_is_unnamed modules all) (place + 1) (entry + 1) ds ≡ [] → Unlike (earlier ++ x ∷ []) (Names rest))
         → Unlike earlier (Names nodes)
     at None rest p q e k = absurd cc
     at (Some x) None p q e k = absurd cc

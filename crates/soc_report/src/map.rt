@@ -2,9 +2,9 @@ ghost use Rattle.std.specs.Prelude.{◌≡◌, ◌++◌, decimal, IfOk, OnOk};
 ghost use Rattle.soc_report.specs.MapText as spec;
 
 use crate::ports::add_all_lines;
-use dip_plan::Accepted;
 use dip_graph::Design;
 use dip_lists::{Bytes, Memory};
+use dip_plan::Accepted;
 use dip_text::Text;
 use std::alloc::Global;
 

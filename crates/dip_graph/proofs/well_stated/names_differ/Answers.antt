@@ -1,4 +1,4 @@
-use Rattle.std.proofs.Common.{◌≢◌, List, length, take, sym, ◌∙◌, arith, refl, subst}
+use Rattle.std.proofs.Common.{◌≢◌, List, length, sym, ◌∙◌, arith, refl, subst}
 use Rattle.std.specs.Prelude.{AllPairs}
 use Rattle.std.proofs.lemmas.List.{take_all}
 use Rattle.std.proofs.lemmas.Bool.{false≢true}
@@ -11,7 +11,7 @@ pub returns-then-not-is_unlike : goal.returns-then-not-is_unlike
 returns-then-not-is_unlike c = (
   λ e. absurd (false≢true e),
   λ h. sym c.if-not-is_unlike.true ∙ c.is_unlike.ensures.1 (unlike c.args.nodes.now c.loop-place.place c.index-nodes-place.result c.loop-place-test.true
-    (slice_get_read c.args.nodes.now (length c.args.nodes.now) c.loop-place.place c.index-nodes-place.result refl c.loop-place-test.true c.index-nodes-place.is) h),
+      (slice_get_read c.args.nodes.now (length c.args.nodes.now) c.loop-place.place c.index-nodes-place.result refl c.loop-place-test.true c.index-nodes-place.is) h),
 )
 
 pub loop-place-preserved : goal.loop-place-preserved

@@ -1,4 +1,4 @@
-use Rattle.std.proofs.Common.{◌<◌, List, map, length, arith, ap, sym, subst}
+use Rattle.std.proofs.Common.{◌<◌, List, length, arith, ap, sym, subst}
 use Rattle.std.specs.Prelude.{All}
 use Rattle.dip_graph.specs.declared.edges.Edge.{Edge}
 use Rattle.dip_rule.specs.Boxed.{stated_by}

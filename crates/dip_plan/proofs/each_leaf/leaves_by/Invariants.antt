@@ -1,4 +1,4 @@
-use Rattle.std.proofs.Common.{◌≡◌, ◌++◌, drop, map}
+use Rattle.std.proofs.Common.{◌≡◌, ◌++◌, drop}
 use Rattle.dip_rule.specs.Boxed.{stated_by}
 use Rattle.dip_plan.specs.Building.{leaves_by}
 use Rattle.dip_plan.proofs.each_leaf.leaves_by.Given as goal

@@ -2,7 +2,6 @@ use Rattle.std.proofs.Common.{◌≡◌, ◌+◌, ◌≤◌, ◌++◌, drop, len
 use Rattle.std.specs.Option.{option_map}
 use Rattle.toml.specs.View.{items_view}
 use Rattle.dip_lists.specs.First.{first}
-use Rattle.std.specs.Prelude.{All}
 use Rattle.soc_design.specs.Stated as spec
 use Rattle.soc_design.specs.Reading.{failing, node_is_beyond}
 use Rattle.soc_design.proofs.limits.limited_nodes.Given as goal

@@ -1,4 +1,4 @@
-use Rattle.std.proofs.Common.{◌≡◌, ◌+◌, ◌++◌, drop, length, ◌<◌}
+use Rattle.std.proofs.Common.{◌≡◌, ◌+◌, ◌++◌, drop, length}
 use Rattle.std.specs.Option.{option_map}
 use Rattle.toml.specs.View.{table_view, items_view}
 use Rattle.dip_lists.specs.First.{first}

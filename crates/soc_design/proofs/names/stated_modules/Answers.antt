@@ -1,6 +1,5 @@
-use Rattle.std.proofs.Common.{ℕ, ◌≡◌, ◌<◌, ◌+◌, List, ◌∙◌, ap, sym, arith, take, ◌++◌, ◌∷◌, [], is_none, length, rules}
+use Rattle.std.proofs.Common.{◌≡◌, ◌∙◌, ap, sym, arith, take, ◌++◌, ◌∷◌, [], is_none, length, rules}
 use Rattle.toml.specs.View.{view, table_view, items_view}
-use Rattle.dip_graph.specs.declared.design.ModuleEntry.{ModuleEntry}
 use Rattle.soc_design.specs.Stated.{names_at, module_after, module_at}
 use Rattle.soc_design.specs.Reading.{module_is_unnamed, count, modules_in}
 use Rattle.soc_design.proofs.Counting.{count-items_view}

@@ -1,13 +1,10 @@
-use Rattle.std.proofs.Common.{ℕ, ◌+◌, List, ◌≡◌, ◌∙◌, ap, sym, refl, arith, take, ◌++◌, ◌∷◌, [], Some, is_none, ◌<◌, length, rules}
+use Rattle.std.proofs.Common.{ℕ, ◌+◌, List, ◌≡◌, ◌∙◌, ap, sym, refl, arith, take, ◌++◌, ◌∷◌, [], Some, is_none, length, rules}
 use Rattle.std.specs.Option.{option_map, option_and_then}
-use Rattle.std.specs.Vec.Iter.{into_iter_items}
 use Rattle.toml.specs.View.{view, table_view, items_view}
 use Rattle.toml.specs.Data.{Items}
 use Rattle.std.specs.List.{list_any}
 use Rattle.std.specs.Str.{bytes_eq}
 use Rattle.dip_lists.specs.First.{first, failure_of}
-use Rattle.dip_graph.specs.declared.design.NodeEntry.{NodeEntry}
-use Rattle.soc_design.specs.declared.nodes.LimitedNode.{LimitedNode}
 use Rattle.soc_design.specs.Stated.{all_of, node_of, node_in, name_at, names_at, module_of, placed_node}
 use Rattle.soc_design.specs.Reading.{node_is_unnamed, unnamed_nodes, count, first_node, nodes_in}
 use Rattle.soc_design.proofs.Counting.{count-items_view}

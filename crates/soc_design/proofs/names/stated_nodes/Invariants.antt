@@ -1,4 +1,4 @@
-use Rattle.std.proofs.Common.{◌≡◌, ◌<◌, ◌+◌, ◌++◌, Some, drop, take, length}
+use Rattle.std.proofs.Common.{◌≡◌, ◌+◌, ◌++◌, Some, drop, take, length}
 use Rattle.std.specs.Option.{option_map}
 use Rattle.std.specs.Vec.Iter.{into_iter_items, into_iter_len}
 use Rattle.toml.specs.View.{table_view, items_view}
