@@ -1,5 +1,5 @@
-//! The checks of designs after those of their files, and what a design agrees on whose checks pass: its edges and
-//! the only parameters of their ports.
+//! The checks of designs after those of their files, and what a design agrees on whose checks pass: its
+//! edges and the only parameters of their ports.
 #![tactic(auto)]
 
 mod agreed;

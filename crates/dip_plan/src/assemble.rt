@@ -25,7 +25,8 @@ pub fn plan_of(
     requires edges { length edges.now < 2 ^ 32 }
     requires to { All (λ (edge : Edge). edge.to < length design.now.nodes) edges.now }
     requires from { All (λ (edge : Edge). edge.from < length design.now.nodes) edges.now }
-    ensures { IfOk result (λ plan. plan ≡ spec.plan_of (⟦<Rules as Stating>⟧.stated rules.now) design.now edges.now solution.now) }
+    ensures { IfOk result (λ plan. plan ≡ spec.plan_of (⟦<Rules as Stating>⟧.stated rules.now) design.now
+        edges.now solution.now) }
 {
     let nodes = design.nodes.as_slice();
     let ins = each_to(alloc, edges, nodes.len())?;

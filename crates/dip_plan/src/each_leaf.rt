@@ -96,7 +96,8 @@ fn add_of_kind(
     ins: &Numbers,
     outs: &Numbers,
 ) -> Result<(), Memory>
-    ensures { OnOk result (leaves.new ≡ leaves.old ++ spec.kind_leaves (⟦<Rules as Stating>⟧.stated rules.now) kind.now ins.now outs.now) }
+    ensures { OnOk result (leaves.new ≡ leaves.old ++ spec.kind_leaves (⟦<Rules as Stating>⟧.stated
+        rules.now) kind.now ins.now outs.now) }
 {
     let NodeKind::Ruled { kind, args } = kind else {
         return Ok(());
@@ -117,7 +118,8 @@ pub fn leaves_by(
 ) -> Result<Leaves, Memory>
     requires ins { length ins.now ≡ length nodes.now }
     requires outs { length outs.now ≡ length nodes.now }
-    ensures { IfOk result (λ leaves. leaves ≡ leaves_by (⟦<Rules as Stating>⟧.stated rules.now) nodes.now ins.now outs.now) }
+    ensures { IfOk result (λ leaves. leaves ≡ leaves_by (⟦<Rules as Stating>⟧.stated rules.now) nodes.now
+        ins.now outs.now) }
 {
     let mut leaves = Items::new(alloc);
     for (node, entry) in nodes.iter().enumerate() {

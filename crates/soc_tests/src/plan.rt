@@ -9,6 +9,14 @@ use tl_edge::{Leaf, PlanEdge, PlanPort};
 use tl_params::{Policy, Template};
 use tl_rules::boxed_standard_rules;
 
+// What the design of a file has, by the standard rules.
+fn accepted_of(alloc: Global, design: &Design) -> Result<Accepted, Fault>
+    requires { IsWellStated design.now }
+{
+    let rules = boxed_standard_rules!(alloc);
+    check(alloc, design, &rules)
+}
+
 // A template's kind.
 fn kind(template: Template) -> &'static str {
     match template {
@@ -75,14 +83,6 @@ fn show_accepted(rt: &HostRuntime, accepted: &Accepted) -> io::Result<()> {
     }
     show_ports(rt, "source", plan.sources.as_slice())?;
     show_ports(rt, "sink", plan.sinks.as_slice())
-}
-
-// What the design of a file has, by the standard rules.
-fn accepted_of(alloc: Global, design: &Design) -> Result<Accepted, Fault>
-    requires { IsWellStated design.now }
-{
-    let rules = boxed_standard_rules!(alloc);
-    check(alloc, design, &rules)
 }
 
 /// Prints the plan of a design: its leaves, its edges, and the ports of its sources and sinks.

@@ -21,7 +21,7 @@ use Rattle.tl_params.proofs.OneOwner.{one_owner}
 use Rattle.dip_lists.proofs.Tests.{both}
 use Rattle.tl_params.proofs.Carrying.{same_sets}
 use Rattle.tl_params.proofs.Joining.{get_left, get_right, get_split}
-use Rattle.tl_owners.specs.Outputs.{GoesOn, IsAtSink, OutputLaw}
+use Rattle.tl_owners.specs.Outputs.{IsOwnedBehind, IsAtSink, OutputLaw}
 use Rattle.tl_owners.proofs.SoundLeaves.{IsSoundLeaf}
 use Rattle.tl_owners.proofs.Members.{contains_in, mapped, given_by}
 use Rattle.tl_owners.proofs.Upward.{slaves_upward}
@@ -138,7 +138,7 @@ sound_leaves plan sound k d l = record { shape = sound.shaped k d l; carries = s
 
 module _ (plan : Plan) (sound : IsSound plan) where
   goes_on : (leaf : Leaf) (edge place address : ℕ) (slave : Slave) → Contains plan.leaves leaf → Contains leaf.ins edge → edge < length plan.edges
-      → slice_get (edge_at plan edge).slaves place ≡ Some slave → Owns (edge_at plan edge).slaves place address → GoesOn plan leaf.outs address slave
+      → slice_get (edge_at plan edge).slaves place ≡ Some slave → Owns (edge_at plan edge).slaves place address → IsOwnedBehind plan leaf.outs address slave
   goes_on leaf edge place address slave listed enters l is owns =
       let s = All-contains (IsSoundLeaf plan) plan.leaves leaf (sound_leaves plan sound) listed in
       let pieces : Option SizeRange = pieces_of leaf.template leaf.args in
