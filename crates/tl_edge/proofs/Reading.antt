@@ -324,10 +324,10 @@ other_lane_told width request asked response other back back_too differ same =
     let lengths : length response.payload ≡ length other.payload = same_length width request asked response other back back_too ops sizes in
     told_parts response other ops sizes (ap (λ (beat : DBeat). beat.source) same) denials lengths
     (λ granted.
-      ext_get_or 0 response.payload other.payload lengths
-      (λ j within.
-        zero_byte width request asked response other j back back_too (sym sizes) granted same differ (omega (arith, within, payload_length width request response back))
-        ∙ sym (zero_byte width asked request other response j back_too back sizes (sym denials ∙ granted) (sym same) (λ e. differ (sym e)) (omega (arith, within, lengths, payload_length width asked other back_too)))))
+    ext_get_or 0 response.payload other.payload lengths
+    (λ j within.
+    zero_byte width request asked response other j back back_too (sym sizes) granted same differ (omega (arith, within, payload_length width request response back))
+    ∙ sym (zero_byte width asked request other response j back_too back sizes (sym denials ∙ granted) (sym same) (λ e. differ (sym e)) (omega (arith, within, lengths, payload_length width asked other back_too)))))
 
 same_told : (width : ℕ) (request asked : Request) (response other : Response) → IsSentBack width request response → IsSentBack width asked other
     → beats_of_response width request.address response ≡ beats_of_response width asked.address other → told response ≡ told other

@@ -13,7 +13,7 @@ use Rattle.tl_edge.specs.Bundles.{log_of}
 use Rattle.tl_edge.specs.Messages.{bytes_of, has_data, has_flags}
 use Rattle.tl_edge.specs.Beats.{first_lane, lane_count, on_bits, on_bytes, part, data_beats, request_beats, flags_of, a_beat}
 use Rattle.tl_edge.proofs.Active.{IsBus, bus_of, bus_pos, compared, larger, smaller, times-le, first_large, set_part}
-use Rattle.tl_pieces.specs.Cutting.{is_cut, piece, piece_count}
+use Rattle.tl_pieces.specs.Cutting.{is_cut, piece_at, piece_count}
 use Rattle.tl_pieces.specs.CutLaws.{IsCutOn, piece_beats, PieceBeatsLaw}
 use Rattle.tl_pieces.proofs.Parts.{part-part, part-nil, bytes_of-log, most_pos, larger_than_most, IsWholePieces, whole_pieces, piece_within}
 
@@ -48,7 +48,7 @@ same_part width most number beat xs whole h =
     ap (λ (n : ℕ). part width beat (part n number xs)) whole.is ∙ part-part width (data_beats (log_of most) width) number beat xs h
 
 -- the flags of a piece are its part of the request's
-piece_flags : (most : ℕ) (request : Request) (number : ℕ) → IsPowerOfTwo most → number * most + most ≤ bytes_of request.size → flags_of (piece most request number) ≡ part most number (flags_of request)
+piece_flags : (most : ℕ) (request : Request) (number : ℕ) → IsPowerOfTwo most → number * most + most ≤ bytes_of request.size → flags_of (piece_at most request number) ≡ part most number (flags_of request)
 piece_flags most request number size within = by_kind (has_flags request.op)
   where
     all : replicate (bytes_of (log_of most)) true ≡ part most number (replicate (bytes_of request.size) true)
@@ -79,7 +79,7 @@ one_count : (op : Op) (size width : ℕ) → has_data op ≡ false → request_b
 one_count op size width h = cond-false (has_data op) (data_beats size width) 1 h
 
 payload_law : (width most : ℕ) (request : Request) (number beat : ℕ) → IsCutOn width most request → number < piece_count most request → beat < piece_beats width most request
-    → (a_beat width (piece most request number) beat).payload ≡ (a_beat width request (number * piece_beats width most request + beat)).payload
+    → (a_beat width (piece_at most request number) beat).payload ≡ (a_beat width request (number * piece_beats width most request + beat)).payload
 payload_law width most request number beat on below h =
     ap (λ (first : ℕ). on_bytes first (part width beat (part most number request.payload))) (first_zero width most request number on)
     ∙ ap (λ (bytes : List ℕ). on_bytes (first_lane width request.size request.address) bytes) parts
@@ -105,9 +105,9 @@ all_set width size number large within =
     set_part width size number (omega (arith, count, within)) ∙ ap (λ (n : ℕ). replicate n true) count
 
 mask_law : (width most : ℕ) (request : Request) (number beat : ℕ) → IsCutOn width most request → number < piece_count most request → beat < piece_beats width most request
-    → (a_beat width (piece most request number) beat).mask ≡ (a_beat width request (number * piece_beats width most request + beat)).mask
+    → (a_beat width (piece_at most request number) beat).mask ≡ (a_beat width request (number * piece_beats width most request + beat)).mask
 mask_law width most request number beat on below h =
-    ap (λ (first : ℕ). on_bits first (part width beat (flags_of (piece most request number)))) (first_zero width most request number on)
+    ap (λ (first : ℕ). on_bits first (part width beat (flags_of (piece_at most request number)))) (first_zero width most request number on)
     ∙ ap (λ (flags : List Bool). on_bits (first_lane width request.size request.address) flags) parts
   where
     pieces : IsWholePieces most request
@@ -122,7 +122,7 @@ mask_law width most request number beat on below h =
     set_in : (r : Request) (flags : List Bool) → has_flags r.op ≡ false → flags_of r ≡ replicate (bytes_of r.size) true
     set_in r flags none = cond-false (has_flags r.op) r.mask (replicate (bytes_of r.size) true) none
 
-    parts : part width beat (flags_of (piece most request number)) ≡ part width (number * piece_beats width most request + beat) (flags_of request)
+    parts : part width beat (flags_of (piece_at most request number)) ≡ part width (number * piece_beats width most request + beat) (flags_of request)
     parts = elim (cases_Bool (has_data request.op)) [
       | inl data_too ↦
           let count : piece_beats width most request ≡ data_beats (log_of most) width = data_count request.op (log_of most) width data_too in
@@ -136,7 +136,7 @@ mask_law width most request number beat on below h =
           let unflagged : has_flags request.op ≡ false = no_flags request.op none in
           let inner : number * width + width ≤ bytes_of request.size = omega (arith, pieces.times, row_fits number width (piece_count most request) most below on.filled) in
           let start : 0 * width + width ≤ bytes_of (log_of most) = omega (arith, bytes, on.filled) in
-          ap (λ (flags : List Bool). part width beat flags) (set_in (piece most request number) [] unflagged)
+          ap (λ (flags : List Bool). part width beat flags) (set_in (piece_at most request number) [] unflagged)
           ∙ ap (λ (n : ℕ). part width n (replicate (bytes_of (log_of most)) true)) first
           ∙ all_set width (log_of most) 0 (omega (arith, bytes, on.filled)) start
           ∙ sym (all_set width request.size number (omega (arith, on.filled, larger_than_most most request on.cut)) inner)

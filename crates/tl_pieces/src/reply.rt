@@ -58,13 +58,9 @@ fn reply_data(alloc: Global, request: &Request, answers: &[Response]) -> Result<
     }
 }
 
-/// The reply to a request whose pieces got these answers: denied where one of them is, and with their data joined,
-/// or as many zeros.
-pub fn reply_to(
-    alloc: Global,
-    request: &Request,
-    answers: &[Response],
-) -> Result<Response, Memory>
+/// The reply to a request whose pieces got these answers: denied where one of them is, and with their data
+/// joined, or as many zeros.
+pub fn reply_to(alloc: Global, request: &Request, answers: &[Response]) -> Result<Response, Memory>
     requires { request.now.size ≤ 8 }
     ensures { IfOk result (λ reply. reply ≡ spec.reply_to request.now answers.now) }
 {
