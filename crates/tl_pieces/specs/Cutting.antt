@@ -40,12 +40,12 @@ abbrev pub piece_count : ℕ → Request → ℕ
 piece_count most request = bytes_of request.size / most
 
 -- these pieces, in order
-abbrev pub pieces_of : ℕ → Request → List Request
-pieces_of most request = map (piece_at most request) (range_with_len 0 (piece_count most request))
+abbrev pub all_pieces : ℕ → Request → List Request
+all_pieces most request = map (piece_at most request) (range_with_len 0 (piece_count most request))
 
 -- the messages into which a request is cut at so many bytes: what isn't cut stays one message
 abbrev pub cut_at : ℕ → Request → List Request
-cut_at most request = cond (is_cut most request) (pieces_of most request) (request ∷ [])
+cut_at most request = cond (is_cut most request) (all_pieces most request) (request ∷ [])
 
 -- one of the answers is denied
 abbrev pub any_denied : List Response → Bool
