@@ -1,5 +1,5 @@
 -- Beats fit the wires of their edge.
-use Rattle.std.proofs.Common.{ℕ, zero, suc, ◌≡◌, ◌+◌, ◌-◌, ◌*◌, ◌^◌, ◌<◌, ◌≤◌, inl, inr, List, [], ◌∷◌, All, length, get_or, map, Bool, true, false, IsTrue, Some, lit<, ap, sym, ◌∙◌, refl, subst, arith}
+use Rattle.std.proofs.Common.{ℕ, ◌≡◌, ◌*◌, ◌^◌, ◌<◌, ◌≤◌, inl, inr, List, All, get_or, map, Bool, true, false, IsTrue, lit<, ap, sym, refl, subst, arith}
 use Rattle.std.specs.Prelude.{Contains}
 use Rattle.std.specs.Int.{from_bool}
 use Rattle.std.specs.List.{range_with_len}
@@ -7,28 +7,27 @@ use Rattle.std.proofs.lemmas.Bool.{cases_lt, ltb-true, eqb-true}
 use Rattle.std.proofs.lemmas.List.Elements.{All-map, All-contains, All-from_recursion}
 use Rattle.std.proofs.lemmas.List.FromFn.{length-range_with_len, get_or-range_with_len}
 use Rattle.std.proofs.lemmas.Option.{slice_get_within, get_or_from_slice_get}
-use Rattle.dip_sets.specs.Sets.{IsSet, InSome}
+use Rattle.dip_sets.specs.Sets.{IsSet}
 use Rattle.tl_params.specs.declared.ops.Op.{Op}
 use Rattle.tl_params.specs.declared.ops.Op.TheVariants.{PutFull, PutPartial, Arithmetic, Logical, Get, Intent}
 use Rattle.tl_params.specs.declared.ops.Ack.{Ack}
 use Rattle.tl_params.specs.declared.ops.Ack.TheVariants.{Ack as Plain, AckData, HintAck}
 use Rattle.tl_params.specs.declared.ports.Slave.{Slave}
 use Rattle.tl_params.specs.Codes.{code_of_op, code_of_ack}
-use Rattle.tl_params.specs.Operations.{largest}
 use Rattle.tl_edge.specs.declared.beat.ABeat.{ABeat}
 use Rattle.tl_edge.specs.declared.beat.DBeat.{DBeat}
 use Rattle.tl_edge.specs.declared.bundle.Bundle.{Bundle}
 use Rattle.tl_edge.specs.declared.message.Request.{Request}
 use Rattle.tl_edge.specs.declared.message.Response.{Response}
 use Rattle.tl_edge.specs.declared.plan.PlanEdge.{PlanEdge}
-use Rattle.tl_edge.specs.Bundles.{bits_for, digits_of, log_of, largest_transfer, bundle}
+use Rattle.tl_edge.specs.Bundles.{bits_for, log_of, largest_transfer, bundle}
 use Rattle.tl_edge.specs.Messages.{has_param, IsWholeResponse}
 use Rattle.tl_edge.specs.Beats.{a_beat, d_beat, request_beats, response_beats, beats_of_request, beats_of_response}
-use Rattle.tl_edge.specs.BeatLaws.{IsSent, IsSentBack, HasLanes, HasLanesBack}
+use Rattle.tl_edge.specs.BeatLaws.{IsSent, HasLanes, HasLanesBack}
 use Rattle.tl_edge.specs.Legal.{IsOwned, IsLegalOn}
 use Rattle.tl_edge.specs.Plans.{bus_width}
 use Rattle.tl_edge.specs.SoundPlans.{IsSoundEdge, IsSmall}
-use Rattle.tl_edge.specs.Wires.{a_fields, d_fields, a_widths, d_widths, FitWires, FitsDown, FitsUp, IsWireWidth, WiresLaw}
+use Rattle.tl_edge.specs.Wires.{a_fields, d_fields, a_widths, d_widths, FitsDown, FitsUp, IsWireWidth, WiresLaw}
 use Rattle.tl_edge.proofs.Active.{IsBus, bus_of, bus_pos}
 use Rattle.tl_edge.proofs.Digits.{byte_shift}
 use Rattle.tl_edge.proofs.Greatest.{bits_law}

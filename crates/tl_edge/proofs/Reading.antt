@@ -14,7 +14,7 @@ use Rattle.tl_params.specs.declared.ops.Op.TheVariants.{PutFull, PutPartial, Ari
 use Rattle.tl_edge.specs.declared.message.Request.{Request}
 use Rattle.tl_edge.specs.declared.message.Response.{Response}
 use Rattle.tl_edge.specs.declared.beat.DBeat.{DBeat}
-use Rattle.tl_edge.specs.Messages.{bytes_of, has_data, has_flags, brings_data, IsWholeRequest, IsWholeResponse, AreBytes}
+use Rattle.tl_edge.specs.Messages.{bytes_of, has_data, has_flags, brings_data, IsWholeRequest, AreBytes}
 use Rattle.tl_edge.specs.Beats.{of_digits, on_lanes, on_bits, on_bytes, part, first_lane, lane_count, data_beats, a_beat, d_beat, request_beats, response_beats, beats_of_request, beats_of_response, data_on_lanes}
 use Rattle.tl_edge.specs.Joined.{digits, active_digits, bytes_in, flags_in, bytes_back, joined_request, joined_response, told}
 use Rattle.tl_edge.specs.BeatLaws.{IsSent, IsSentBack, IsActive, lane_of, JoinLaw, SameLaw}

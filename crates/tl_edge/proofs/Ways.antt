@@ -1,5 +1,5 @@
 -- How the edges and leaves of a plan stand: each edge once, and no way back.
-use Rattle.std.proofs.Common.{ℕ, zero, suc, ◌+◌, ◌<◌, ◌≤◌, ◌≡◌, inl, inr, List, [], ◌∷◌, ◌++◌, length, Bool, true, false, ◌&&◌, ◌==◌, All, AllPairs, Some, get_or, slice_get, unwrap_or, sym, ap, ◌∙◌, refl, subst, arith, eqb}
+use Rattle.std.proofs.Common.{ℕ, zero, suc, ◌+◌, ◌<◌, ◌≤◌, ◌≡◌, inl, inr, List, [], ◌∷◌, ◌++◌, length, Bool, true, false, ◌&&◌, ◌==◌, All, AllPairs, Some, get_or, slice_get, unwrap_or, sym, ap, ◌∙◌, subst, arith, eqb}
 use Rattle.std.specs.Prelude.{Contains}
 use Rattle.std.specs.List.{AllByRecursion, IsDistinct}
 use Rattle.std.proofs.lemmas.Bool.{cases_eq, ne_eqb}
@@ -11,12 +11,11 @@ use Rattle.dip_sets.proofs.Lists.{pairs_none}
 use Rattle.tl_params.specs.declared.ops.Template.{Template}
 use Rattle.tl_params.specs.declared.ops.Template.TheVariants.{Buffer, Width, Fragmenter, Shrinker, Xbar}
 use Rattle.tl_edge.specs.declared.plan.Leaf.{Leaf}
-use Rattle.tl_edge.specs.declared.plan.PlanPort.{PlanPort}
 use Rattle.tl_edge.specs.declared.plan.Plan.{Plan}
 use Rattle.tl_edge.specs.Plans.{times, given_edges, taken_edges, Giver, Out, Source, Taker, In, Sink, GivesTo, TakesFrom, LeadsTo, IsWay, NoneReturns}
 use Rattle.tl_edge.specs.SoundPlans.{IsSound, HasShape}
 use Rattle.tl_edge.specs.PlanLaws.{IsOne, EndsLaw, WaysLaw}
-use Rattle.tl_edge.proofs.Once.{Stands, PortAt, AtLeaf, AtPort, one_end, few_ends, few_distinct, leaf_listed, port_listed}
+use Rattle.tl_edge.proofs.Once.{AtLeaf, AtPort, one_end, few_ends, few_distinct, leaf_listed, port_listed}
 
 -- ---- numbers below a bound that each stand once
 

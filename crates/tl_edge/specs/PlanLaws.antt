@@ -2,7 +2,7 @@
 use Rattle.std.specs.Prelude.{ℕ, ◌≡◌, ◌+◌, ◌<◌, ◌≤◌, List, ◌∷◌, length, Contains, AllPairs}
 use Rattle.tl_edge.specs.declared.plan.Leaf.{Leaf}
 use Rattle.tl_edge.specs.declared.plan.Plan.{Plan}
-use Rattle.tl_edge.specs.Plans.{Giver, Taker, GivesTo, TakesFrom, LeadsTo, IsWay}
+use Rattle.tl_edge.specs.Plans.{Giver, Taker, GivesTo, TakesFrom, IsWay}
 use Rattle.tl_edge.specs.SoundPlans.{IsSound}
 
 -- something is so of one alone

@@ -1,14 +1,13 @@
 -- Narrow beats cut out of wide ones.
-use Rattle.std.proofs.Common.{ℕ, zero, suc, ◌≡◌, ◌+◌, ◌*◌, ◌/◌, ◌%◌, ◌^◌, ◌-◌, ◌<◌, ◌≤◌, inl, inr, min, max, List, [], ◌∷◌, length, get_or, take, drop, map, Bool, true, false, cond, IsTrue, lit<, ap, sym, ◌∙◌, refl, subst, arith}
+use Rattle.std.proofs.Common.{ℕ, zero, suc, ◌≡◌, ◌+◌, ◌*◌, ◌/◌, ◌%◌, ◌^◌, ◌<◌, ◌≤◌, List, length, take, drop, map, Bool, true, false, cond, lit<, ap, sym, ◌∙◌, arith}
 use Rattle.std.specs.Int.{from_bool}
 use Rattle.std.proofs.Math.Nat.{pow-zero, div-div-eq-div-mul, mul-div_cancel_left, mod-eq_of_lt, zero-div, pow-le-pow_right}
 use Rattle.std.proofs.lemmas.Nat.{pow-add, div-add-mod', mod_below, div_below}
 use Rattle.std.proofs.lemmas.List.{length-map, take_all, get_or-drop}
-use Rattle.tl_params.specs.Arguments.{is_width}
 use Rattle.tl_edge.specs.declared.message.Request.{Request}
 use Rattle.tl_edge.specs.declared.message.Response.{Response}
-use Rattle.tl_edge.specs.Messages.{bytes_of, IsWholeRequest, IsWholeResponse}
-use Rattle.tl_edge.specs.Beats.{of_digits, on_lanes, first_lane, lane_count, data_beats, part, flags_of, a_beat, d_beat}
+use Rattle.tl_edge.specs.Messages.{bytes_of}
+use Rattle.tl_edge.specs.Beats.{of_digits, on_lanes, first_lane, data_beats, part, flags_of, a_beat}
 use Rattle.tl_edge.proofs.Digits.{AreDigits, on_lanes-lt, flag_bits}
 use Rattle.tl_edge.proofs.Active.{bus_of, first_large, first_small, lanes_fit, all_or_none, times-le}
 use Rattle.tl_edge.proofs.LaneByLane.{base_pos, part_digits, digits_from_bytes, map-part, flags_of-length}

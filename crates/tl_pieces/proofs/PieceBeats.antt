@@ -1,10 +1,10 @@
 -- The beats of pieces among those of their request.
-use Rattle.std.proofs.Common.{ℕ, zero, suc, ◌≡◌, ◌+◌, ◌*◌, ◌/◌, ◌%◌, ◌^◌, ◌-◌, ◌<◌, ◌≤◌, inl, inr, min, max, List, [], ◌∷◌, length, take, drop, map, replicate, Bool, true, false, cond, IsTrue, ap, sym, ◌∙◌, refl, subst, arith}
+use Rattle.std.proofs.Common.{ℕ, ◌≡◌, ◌+◌, ◌*◌, ◌/◌, ◌-◌, ◌<◌, ◌≤◌, inl, inr, List, [], take, replicate, Bool, true, false, cond, IsTrue, ap, sym, ◌∙◌, refl, arith}
 use Rattle.std.specs.Int.{IsPowerOfTwo}
 use Rattle.std.proofs.Math.Nat.{mul-div_cancel_left}
 use Rattle.std.proofs.lemmas.Bool.{cases_Bool, cond-true, cond-false}
 use Rattle.std.proofs.lemmas.Nat.{row_fits}
-use Rattle.std.proofs.lemmas.List.{nil_from_length, length-replicate, drop-replicate, take-replicate, length-take, length-drop}
+use Rattle.std.proofs.lemmas.List.{nil_from_length, drop-replicate, take-replicate}
 use Rattle.tl_params.specs.Arguments.{is_width}
 use Rattle.tl_params.specs.declared.ops.Op.{Op}
 use Rattle.tl_params.specs.declared.ops.Op.TheVariants.{PutFull, PutPartial, Arithmetic, Logical, Get, Intent}
@@ -12,10 +12,10 @@ use Rattle.tl_edge.specs.declared.message.Request.{Request}
 use Rattle.tl_edge.specs.Bundles.{log_of}
 use Rattle.tl_edge.specs.Messages.{bytes_of, has_data, has_flags}
 use Rattle.tl_edge.specs.Beats.{first_lane, lane_count, on_bits, on_bytes, part, data_beats, request_beats, flags_of, a_beat}
-use Rattle.tl_edge.proofs.Active.{IsBus, bus_of, bus_pos, compared, larger, smaller, times-le, first_large, set_part}
-use Rattle.tl_pieces.specs.Cutting.{is_cut, piece_at, piece_count}
+use Rattle.tl_edge.proofs.Active.{IsBus, bus_of, bus_pos, compared, larger, smaller, first_large, set_part}
+use Rattle.tl_pieces.specs.Cutting.{piece_at, piece_count}
 use Rattle.tl_pieces.specs.CutLaws.{IsCutOn, piece_beats, PieceBeatsLaw}
-use Rattle.tl_pieces.proofs.Parts.{part-part, part-nil, bytes_of-log, most_pos, larger_than_most, IsWholePieces, whole_pieces, piece_within}
+use Rattle.tl_pieces.proofs.Parts.{part-part, part-nil, bytes_of-log, larger_than_most, IsWholePieces, whole_pieces, piece_within}
 
 -- a piece has a whole number of beats' bytes
 pub record IsWholeBeats (width most : ℕ) : Type 0 where

@@ -1,17 +1,17 @@
 -- The pieces of a request.
-use Rattle.std.proofs.Common.{ℕ, zero, suc, ◌≡◌, ◌+◌, ◌*◌, ◌/◌, ◌%◌, ◌^◌, ◌-◌, ◌<◌, ◌≤◌, inl, inr, List, [], ◌∷◌, ◌++◌, append-nil, length, get_or, take, drop, map, Bool, true, false, cond, All, AllPairs, ap, sym, ◌∙◌, refl, subst, arith}
+use Rattle.std.proofs.Common.{ℕ, ◌≡◌, ◌+◌, ◌*◌, ◌/◌, ◌%◌, ◌-◌, ◌<◌, ◌≤◌, inl, inr, List, [], ◌∷◌, ◌++◌, append-nil, length, get_or, drop, map, Bool, true, false, cond, All, AllPairs, ap, sym, ◌∙◌, refl, subst, arith}
 use Rattle.std.specs.Int.{IsPowerOfTwo}
 use Rattle.std.specs.Prelude.{Any}
 use Rattle.std.specs.List.{range_with_len, flat_map}
 use Rattle.std.proofs.lemmas.Bool.{cases_Bool, cond-true, cond-false}
 use Rattle.std.proofs.lemmas.Nat.{div-add-mod', mod_below, div_below, row_fits}
 use Rattle.std.proofs.lemmas.List.{length-take, length-drop}
-use Rattle.std.proofs.lemmas.List.Elements.{All-cons, All-nil, All-map, All-take, All-drop, All-same}
+use Rattle.std.proofs.lemmas.List.Elements.{All-cons, All-nil, All-take, All-drop}
 use Rattle.std.proofs.lemmas.List.Kept.{AllPairs-cons}
-use Rattle.std.proofs.lemmas.List.FromFn.{length-map-range_with_len, get_or-map-range_with_len, length-range_with_len, get_or-range_with_len}
+use Rattle.std.proofs.lemmas.List.FromFn.{length-map-range_with_len, get_or-map-range_with_len}
 use Rattle.dip_sets.proofs.Lists.{pairs_none}
 use Rattle.tl_edge.specs.declared.message.Request.{Request}
-use Rattle.tl_edge.specs.Messages.{bytes_of, has_data, has_flags, IsRequest, IsWholeRequest, AreBytes}
+use Rattle.tl_edge.specs.Messages.{bytes_of, has_data, has_flags, IsWholeRequest}
 use Rattle.tl_edge.specs.Bundles.{log_of}
 use Rattle.tl_edge.specs.Beats.{part}
 use Rattle.tl_edge.proofs.Fitting.{all_made}
@@ -20,7 +20,7 @@ use Rattle.tl_edge.proofs.Active.{all_or_none}
 use Rattle.tl_edge.proofs.Reading.{flat_map-map, parts_joined}
 use Rattle.tl_pieces.specs.Cutting.{is_cut, piece_at, piece_count, cut_at}
 use Rattle.tl_pieces.specs.CutLaws.{IsCuttable, AsksSame, HasByte, LiesBefore, CutLaw}
-use Rattle.tl_pieces.proofs.Parts.{part-nil, length-part_within, bytes_of-log, most_pos, larger_than_most, IsWholePieces, whole_pieces, piece_within, aligned_piece}
+use Rattle.tl_pieces.proofs.Parts.{length-part_within, bytes_of-log, most_pos, IsWholePieces, whole_pieces, piece_within, aligned_piece}
 
 uncut : (most : ℕ) (request : Request) → is_cut most request ≡ false → cut_at most request ≡ request ∷ []
 uncut most request h = cond-false (is_cut most request) (map (piece_at most request) (range_with_len 0 (piece_count most request))) (request ∷ []) h

@@ -1,13 +1,12 @@
 -- Where narrow beats lie in wide ones.
-use Rattle.std.proofs.Common.{ℕ, zero, suc, ◌≡◌, ◌+◌, ◌*◌, ◌/◌, ◌%◌, ◌^◌, ◌-◌, ◌<◌, ◌≤◌, ◌⊎◌, inl, inr, min, max, IsTrue, lit<, ap, sym, ◌∙◌, refl, arith}
-use Rattle.std.proofs.Math.Nat.{mul-div_cancel_left, mod-mod_of_dvd, dvd-mul_right, mod-add-mod, mod-eq_of_lt, div-eq_of_lt, pow-le-pow_right}
+use Rattle.std.proofs.Common.{ℕ, zero, suc, ◌≡◌, ◌+◌, ◌*◌, ◌/◌, ◌%◌, ◌^◌, ◌-◌, ◌<◌, ◌≤◌, inl, inr, ap, sym, ◌∙◌, arith}
+use Rattle.std.proofs.Math.Nat.{mul-div_cancel_left, mod-mod_of_dvd, dvd-mul_right, mod-add-mod, mod-eq_of_lt, div-eq_of_lt}
 use Rattle.std.proofs.lemmas.Bool.{cases_lt}
 use Rattle.std.proofs.lemmas.Nat.{pow_pos, pow_below, pow-add, row_fits, div-add-mod', mod_below, div-mul-add, mod-mul-add}
-use Rattle.tl_params.specs.Arguments.{is_width}
 use Rattle.tl_edge.specs.Messages.{bytes_of}
-use Rattle.tl_edge.specs.Beats.{data_beats, first_lane}
-use Rattle.tl_edge.proofs.Active.{IsBus, bus_of, bus_pos, compared, larger, smaller, small_fits, mod-mul_first, times-le}
-use Rattle.tl_pieces.specs.TwoBuses.{AreBuses, lane_in_wide, wide_number, first_narrow, narrow_count}
+use Rattle.tl_edge.specs.Beats.{data_beats}
+use Rattle.tl_edge.proofs.Active.{IsBus, bus_of, bus_pos, compared, larger, smaller, small_fits, mod-mul_first}
+use Rattle.tl_pieces.specs.TwoBuses.{AreBuses, lane_in_wide, wide_number}
 
 -- ---- the two widths
 

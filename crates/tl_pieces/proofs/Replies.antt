@@ -1,25 +1,23 @@
 -- The reply to a request from the answers to its pieces.
-use Rattle.std.proofs.Common.{ℕ, zero, suc, ◌≡◌, ◌+◌, ◌*◌, ◌/◌, ◌%◌, ◌^◌, ◌-◌, ◌<◌, ◌≤◌, inl, inr, List, [], ◌∷◌, ◌++◌, append-nil, length, get_or, take, drop, map, replicate, Bool, true, false, ◌||◌, cond, All, IsTrue, Some, slice_get, lit<, ap, sym, ◌∙◌, refl, subst, arith}
-use Rattle.std.specs.Int.{IsPowerOfTwo}
+use Rattle.std.proofs.Common.{ℕ, zero, suc, ◌≡◌, ◌+◌, ◌*◌, ◌<◌, inl, inr, List, [], ◌∷◌, ◌++◌, append-nil, length, get_or, take, drop, map, replicate, Bool, true, false, ◌||◌, cond, All, Some, slice_get, lit<, ap, sym, ◌∙◌, refl, subst, arith}
 use Rattle.std.specs.Prelude.{Any}
-use Rattle.std.specs.List.{range_with_len, flat_map, list_any, AllZip}
+use Rattle.std.specs.List.{range_with_len, AllZip}
 use Rattle.std.proofs.lemmas.Bool.{cases_Bool, cond-true, cond-false, or_left, or_right, or_from}
 use Rattle.std.proofs.lemmas.List.{length-append, length-replicate, nil_from_length, take_at, drop_at, drop-drop}
 use Rattle.std.proofs.lemmas.List.Elements.{All-head, All-tail, All-cons, All-nil, All-append, All-replicate}
 use Rattle.std.proofs.lemmas.Option.{same_Some}
-use Rattle.tl_params.specs.Arguments.{is_width}
 use Rattle.tl_params.specs.declared.ops.Op.{Op}
 use Rattle.tl_params.specs.declared.ops.Ack.{Ack}
 use Rattle.tl_edge.specs.declared.message.Request.{Request}
 use Rattle.tl_edge.specs.declared.message.Response.{Response}
 use Rattle.tl_edge.specs.Bundles.{log_of}
-use Rattle.tl_edge.specs.Messages.{bytes_of, ack_of, brings_data, IsWholeRequest, IsWholeResponse, AreBytes}
-use Rattle.tl_edge.specs.Beats.{first_lane, on_bytes, part, data_beats, response_beats, d_beat}
+use Rattle.tl_edge.specs.Messages.{bytes_of, ack_of, brings_data, IsWholeResponse, AreBytes}
+use Rattle.tl_edge.specs.Beats.{first_lane, on_bytes, part, data_beats, d_beat}
 use Rattle.tl_edge.specs.Joined.{told}
 use Rattle.tl_edge.proofs.Ways.{item_has}
 use Rattle.tl_edge.proofs.Cuts.{made_item}
 use Rattle.tl_pieces.specs.Cutting.{is_cut, piece_at, piece_count, cut_at, any_denied, joined_data, reply_data, reply_to}
-use Rattle.tl_pieces.specs.CutLaws.{IsCuttable, AsksSame, IsCutOn, answer_beats, AreAnswers, ReplyLaw}
+use Rattle.tl_pieces.specs.CutLaws.{IsCuttable, IsCutOn, answer_beats, AreAnswers, ReplyLaw}
 use Rattle.tl_pieces.proofs.Parts.{part-nil}
 use Rattle.tl_pieces.proofs.Pieces.{are_pieces, cut_law}
 use Rattle.tl_pieces.proofs.PieceBeats.{first_zero, same_part, whole_beats}

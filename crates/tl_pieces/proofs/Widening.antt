@@ -1,18 +1,17 @@
 -- Wide beats put together from narrow ones.
-use Rattle.std.proofs.Common.{ℕ, zero, suc, ◌≡◌, ◌+◌, ◌*◌, ◌/◌, ◌%◌, ◌^◌, ◌-◌, ◌<◌, ◌≤◌, ◌⊎◌, inl, inr, min, max, List, [], ◌∷◌, length, take, drop, map, Bool, true, false, cond, lit<, ap, sym, ◌∙◌, refl, subst, arith}
+use Rattle.std.proofs.Common.{ℕ, zero, suc, ◌≡◌, ◌+◌, ◌*◌, ◌/◌, ◌%◌, ◌^◌, ◌<◌, ◌≤◌, inl, inr, List, length, drop, map, Bool, true, false, cond, ap, sym, ◌∙◌, refl, subst, arith}
 use Rattle.std.specs.Prelude.{◌↔◌}
 use Rattle.std.specs.Int.{from_bool}
 use Rattle.std.proofs.Math.Nat.{pow-zero, mod-add-mod, mod-eq_of_lt, mul-mod_left}
 use Rattle.std.proofs.lemmas.Bool.{cases_lt}
 use Rattle.std.proofs.lemmas.Nat.{pow-add, row_fits, div-add-mod', mod_below, mod-mul-add}
-use Rattle.std.proofs.lemmas.List.{take_all, length-take, length-drop}
+use Rattle.std.proofs.lemmas.List.{take_all, length-take}
 use Rattle.tl_edge.specs.declared.message.Request.{Request}
-use Rattle.tl_edge.specs.declared.message.Response.{Response}
 use Rattle.tl_edge.specs.Messages.{bytes_of}
-use Rattle.tl_edge.specs.Beats.{of_digits, on_lanes, first_lane, data_beats, part, flags_of, a_beat, d_beat}
+use Rattle.tl_edge.specs.Beats.{of_digits, on_lanes, first_lane, data_beats, part, flags_of, a_beat}
 use Rattle.tl_edge.proofs.Active.{first_large, first_small, times-le}
 use Rattle.tl_edge.proofs.LaneByLane.{map-part}
-use Rattle.tl_pieces.specs.TwoBuses.{AreBuses, IsAsking, IsTelling, lane_in_wide, wide_number, first_narrow, narrow_count, gathered, EndsWide, WideLaw, LastLaw}
+use Rattle.tl_pieces.specs.TwoBuses.{IsAsking, lane_in_wide, wide_number, first_narrow, narrow_count, gathered, EndsWide, WideLaw, LastLaw}
 use Rattle.tl_pieces.proofs.Parts.{part-part}
 use Rattle.tl_pieces.proofs.Blocks.{blocks, same_gathered}
 use Rattle.tl_pieces.proofs.Placing.{AreMultiples, multiples, large, middle, small, kind_of, beats_of_large, beats_of_small, IsInRow, in_row, aligned_wide, IsInOne, in_one, IsAlone, alone, column_fits}

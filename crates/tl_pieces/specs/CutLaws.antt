@@ -1,5 +1,5 @@
 -- What pieces and replies have.
-use Rattle.std.specs.Prelude.{ℕ, ◌≡◌, ◌≤◌, ◌<◌, ◌+◌, ◌-◌, ◌*◌, ◌^◌, List, [], ◌∷◌, All, Any, AllPairs, length, slice_index, Some, slice_get, true, false, IsTrue}
+use Rattle.std.specs.Prelude.{ℕ, ◌≡◌, ◌≤◌, ◌<◌, ◌+◌, ◌-◌, ◌*◌, List, [], ◌∷◌, All, Any, AllPairs, length, slice_index, Some, slice_get, true, false, IsTrue}
 use Rattle.std.specs.Int.{IsPowerOfTwo}
 use Rattle.std.specs.List.{flat_map, AllZip}
 use Rattle.tl_params.specs.Arguments.{is_width}

@@ -1,4 +1,3 @@
-use Rattle.std.proofs.Common.{arith}
 use Rattle.tl_pieces.proofs.Parts.{piece_begins}
 use Rattle.tl_pieces.proofs.cut.piece_at.Goals as goal
 
