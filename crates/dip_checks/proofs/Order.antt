@@ -1,11 +1,11 @@
 -- The checks of a design stand in the order of their numbers, each with rising subjects.
-use Rattle.std.proofs.Common.{◌≡◌, ℕ, ◌+◌, ◌<◌, ◌≤◌, inl, List, [], ◌∷◌, ◌++◌, Bool, true, false, ◌&&◌, cond, Result, Ok, Err, refl, arith}
+use Rattle.std.proofs.Common.{◌≡◌, ℕ, ◌<◌, inl, List, [], ◌∷◌, ◌++◌, Bool, true, false, ◌&&◌, cond, Result, Ok, Err, refl, arith}
 use Rattle.std.specs.Prelude.{All, AllPairs, nat_lt, not, is_none}
 use Rattle.std.specs.List.{list_all}
 use Rattle.std.proofs.lemmas.Bool.{ltb-true}
-use Rattle.std.proofs.lemmas.List.Elements.{All-nil, All-cons, All-append, All-weaker, All-from_recursion}
+use Rattle.std.proofs.lemmas.List.Elements.{All-nil, All-cons, All-append, All-from_recursion}
 use Rattle.std.proofs.lemmas.List.Kept.{AllPairs-cons}
-use Rattle.dip_lists.specs.First.{Check, places}
+use Rattle.dip_lists.specs.First.{Check}
 use Rattle.dip_lists.specs.FirstLaw.{Precedes, HasRisingSubjects, AreInOrder}
 use Rattle.dip_lists.proofs.FirstFailures.{first_law}
 use Rattle.dip_lists.proofs.Tests.{both}
@@ -22,6 +22,7 @@ use Rattle.dip_negotiate.specs.Negotiation.{downs, ups}
 use Rattle.dip_stars.specs.declared.rounds.Counted.{Counted}
 use Rattle.dip_stars.specs.Edges.{design_counts, node_is_unfilled, most_edges, total}
 use Rattle.dip_checks.specs.Weights.{weight}
+use Rattle.dip_lists.proofs.Places.{places_rise}
 use Rattle.dip_checks.specs.Checks.{kind_is_unruled, bind_is_turned, graph_checks, refusing, rule_checks, masters_are_wrong, edge_overlaps, edge_is_misaligned, edge_checks, nexus_differs, kind_misfits, most_weight, fit_checks, solution_of, edges_in, port_checks, design_checks}
 use Rattle.dip_checks.specs.Laws.{CheckOrderLaw}
 
@@ -29,28 +30,6 @@ abbrev pub Rise : List ℕ → Type 0
 Rise subjects = AllPairs (λ subject later. subject < later) subjects
 
 -- ---- subjects
-
--- at one failing place or none
-at_a_place : (fails : Bool) (n : ℕ) (later : List ℕ) → All (λ m. n < m) later → All (λ m. n ≤ m) (cond fails (n ∷ later) later)
-at_a_place true n later h = All-cons (λ m. n ≤ m) n later (omega arith) (All-weaker (λ m. n < m) (λ m. n ≤ m) (λ m above. omega arith) later h)
-at_a_place false n later h = All-weaker (λ m. n < m) (λ m. n ≤ m) (λ m above. omega arith) later h
-
-from_start : {A : Type 0} (fails : ℕ → A → Bool) (n : ℕ) (xs : List A) → All (λ m. n ≤ m) (places fails n xs)
-from_start fails n [] = All-nil (λ m. n ≤ m)
-from_start fails n (x ∷ xs) =
-    at_a_place (fails n x) n (places fails (n + 1) xs)
-    (All-weaker (λ m. n + 1 ≤ m) (λ m. n < m) (λ m above. omega arith) (places fails (n + 1) xs) (from_start fails (n + 1) xs))
-
-rise_behind : (fails : Bool) (n : ℕ) (later : List ℕ) → All (λ m. n < m) later → Rise later → Rise (cond fails (n ∷ later) later)
-rise_behind true n later h r = AllPairs-cons (λ a b. a < b) n later h r
-rise_behind false n later h r = r
-
-pub places_rise : {A : Type 0} (fails : ℕ → A → Bool) (n : ℕ) (xs : List A) → Rise (places fails n xs)
-places_rise fails n [] = λ i j d before within. absurd (omega arith)
-places_rise fails n (x ∷ xs) =
-    rise_behind (fails n x) n (places fails (n + 1) xs)
-    (All-weaker (λ m. n + 1 ≤ m) (λ m. n < m) (λ m above. omega arith) (places fails (n + 1) xs) (from_start fails (n + 1) xs))
-    (places_rise fails (n + 1) xs)
 
 one_rises : (n : ℕ) → Rise (n ∷ [])
 one_rises n i j d before within = absurd (omega arith)

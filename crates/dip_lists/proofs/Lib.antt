@@ -1,4 +1,5 @@
 pub mod Firsts
 pub mod FirstFailures
 pub mod Pairs
+pub mod Places
 pub mod Tests

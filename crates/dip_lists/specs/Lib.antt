@@ -1,3 +1,4 @@
 pub mod First
 pub mod FirstLaw
+pub mod PlacesLaw
 pub mod Refilled

@@ -1,4 +1,5 @@
 ghost use Rattle.dip_lists.specs.FirstLaw.{FirstLaw};
+ghost use Rattle.dip_lists.specs.PlacesLaw.{PlacesLaw};
 
 /// What the first failing check means.
 ///
@@ -6,4 +7,9 @@ ghost use Rattle.dip_lists.specs.FirstLaw.{FirstLaw};
 /// with the lowest number, and of these with the lowest subject. Where there is none, nothing fails.
 pub fn first_failing_law()
     ensures { FirstLaw }
+{}
+
+/// What the subjects at which a test fails mean: those of the items at which it does, in rising order.
+pub fn places_law()
+    ensures { PlacesLaw }
 {}

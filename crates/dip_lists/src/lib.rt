@@ -10,7 +10,7 @@ mod same;
 
 pub use duplicate::{Duplicate, duplicate_items};
 pub use few::Few;
-pub use first::first_failing_law;
+pub use first::{first_failing_law, places_law};
 pub use items::{Bytes, Items, MOST_ITEMS};
 pub use memory::Memory;
 pub use same::{Same, same_items};

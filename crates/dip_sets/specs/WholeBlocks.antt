@@ -4,8 +4,8 @@ use Rattle.std.specs.Int.{IsPowerOfTwo}
 use Rattle.dip_sets.specs.Regions.{InRegion}
 use Rattle.dip_sets.specs.Sets.{Pattern, IsSet, In, alignment}
 
--- where one byte of a block that begins at a multiple of its size is in a set with that alignment or a greater one, each
--- byte is
+-- where one byte of a block that begins at a multiple of its size is in a set with that alignment or a greater one,
+-- each byte is
 abbrev pub WholeBlocksLaw : Type 0
 WholeBlocksLaw =
     (s : Pattern) (start block byte other : ℕ) → IsSet s → IsPowerOfTwo block → start % block ≡ 0 → block ≤ alignment s

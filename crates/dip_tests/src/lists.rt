@@ -24,6 +24,30 @@ pub fn items(alloc: Global, rest: &str, text: &mut String) -> Result<(), Memory>
     say_whether(text, copy.same(&items))
 }
 
+// So many ones.
+fn ones(alloc: Global, count: usize) -> Result<Items<u32>, Memory> {
+    let mut ones = Items::new(alloc);
+    for _ in 0..count {
+        ones.push(1)?;
+    }
+    Ok(ones)
+}
+
+/// So many items with ones in place of all, and then 9 in place of the last: the first and the last.
+pub fn replaced(alloc: Global, rest: &str, text: &mut String) -> Result<(), Memory> {
+    let mut items = counted(alloc, number(rest))?;
+    let ones = ones(alloc, items.len())?;
+    if ones.len() == items.len() {
+        items.refill(ones.as_slice());
+    }
+    let last = items.len().saturating_sub(1);
+    if last < items.len() {
+        items.set(last, 9);
+    }
+    say_some(text, items.get(0).map(|item| u64::from(*item)))?;
+    say_some(text, items.get(last).map(|item| u64::from(*item)))
+}
+
 // So many bytes in a list that keeps four in place.
 fn few_of(alloc: Global, count: u64) -> Result<Few<u8>, Memory> {
     let mut bytes = Few::new(alloc);

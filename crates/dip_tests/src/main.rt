@@ -17,6 +17,7 @@ use std::io;
 fn answer_of_lists(alloc: Global, word: &str, rest: &str, text: &mut String) -> Result<(), Memory> {
     match word {
         "items" => lists::items(alloc, rest, text),
+        "replaced" => lists::replaced(alloc, rest, text),
         "few" => lists::few(alloc, rest, text),
         "bounded" => lists::bounded(alloc, rest, text),
         "decimal" => lists::decimals(alloc, rest, text),
