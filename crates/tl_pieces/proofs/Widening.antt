@@ -18,7 +18,7 @@ use Rattle.tl_pieces.proofs.Placing.{AreMultiples, multiples, large, middle, sma
 use Rattle.tl_pieces.proofs.Narrowing.{from_lane_0, part-first, AreOnBus, large_lanes, large_beats, data_on_bus, flags_on_bus, answer_on_bus}
 
 -- how many narrow beats lie in each wide one
-large_count : (narrow wide size ratio times : ℕ) → wide / narrow ≡ ratio → data_beats size narrow ≡ times * ratio → 0 < times → narrow_count narrow wide size ≡ ratio
+pub large_count : (narrow wide size ratio times : ℕ) → wide / narrow ≡ ratio → data_beats size narrow ≡ times * ratio → 0 < times → narrow_count narrow wide size ≡ ratio
 large_count narrow wide size ratio times is beats some =
     let few : ratio ≤ times * ratio = at_least times ratio some in omega (arith, is, beats, few)
   where
@@ -26,7 +26,7 @@ large_count narrow wide size ratio times is beats some =
     at_least zero r h = absurd (omega arith)
     at_least (suc t) r h = omega arith
 
-middle_count : (narrow wide size ratio times : ℕ) → wide / narrow ≡ ratio → wide ≡ ratio * narrow → bytes_of size ≡ narrow * times → bytes_of size < wide → data_beats size narrow ≡ times → narrow_count narrow wide size ≡ times
+pub middle_count : (narrow wide size ratio times : ℕ) → wide / narrow ≡ ratio → wide ≡ ratio * narrow → bytes_of size ≡ narrow * times → bytes_of size < wide → data_beats size narrow ≡ times → narrow_count narrow wide size ≡ times
 middle_count narrow wide size ratio times is whole fits under beats =
     elim (cases_lt ratio times) [
       | inl fewer ↦ absurd (omega (arith, under, whole, fits, turned narrow times, row_fits ratio narrow times narrow fewer (omega arith)))
@@ -36,7 +36,7 @@ middle_count narrow wide size ratio times is whole fits under beats =
     turned : (a b : ℕ) → a * b ≡ b * a
     turned a b = grind arith
 
-small_count : (narrow wide size ratio : ℕ) → wide / narrow ≡ ratio → 0 < ratio → data_beats size narrow ≡ 1 → narrow_count narrow wide size ≡ 1
+pub small_count : (narrow wide size ratio : ℕ) → wide / narrow ≡ ratio → 0 < ratio → data_beats size narrow ≡ 1 → narrow_count narrow wide size ≡ 1
 small_count narrow wide size ratio is some beats = omega (arith, is, some, beats)
 
 -- ---- what is said of one list, whatever the base

@@ -1,5 +1,5 @@
 -- The beats of one message on a narrow and on a wide bus.
-use Rattle.std.specs.Prelude.{ℕ, zero, suc, ◌≡◌, ◌+◌, ◌*◌, ◌/◌, ◌%◌, ◌^◌, ◌<◌, ◌≤◌, ◌⊎◌, ◌↔◌, min, IsTrue, true}
+use Rattle.std.specs.Prelude.{ℕ, zero, suc, ◌≡◌, ◌+◌, ◌*◌, ◌/◌, ◌%◌, ◌^◌, ◌<◌, ◌≤◌, ◌⊎◌, ◌↔◌, min, bit_or, IsTrue, true}
 use Rattle.tl_params.specs.Arguments.{is_width}
 use Rattle.tl_edge.specs.declared.message.Request.{Request}
 use Rattle.tl_edge.specs.declared.message.Response.{Response}
@@ -113,3 +113,32 @@ LastLaw =
     ↔ (number + 1
     ≡ first_narrow narrow wide (wide_number narrow wide request.address number)
     + narrow_count narrow wide request.size)
+
+-- narrow beats are put together one after another: what is kept of a wide beat after some of its narrow ones and the
+-- next one at its place have no bit in common, so their bitwise or is their sum
+pub record KeptLaw : Type 0 where
+  pub mask : (narrow wide : ℕ) (request : Request) (number more : ℕ) → IsAsking narrow wide request
+      → number < data_beats request.size wide → more < narrow_count narrow wide request.size
+      → bit_or (gathered 2 (lane_in_wide narrow wide request.address) (λ k. (a_beat narrow request k).mask)
+      (first_narrow narrow wide number) more)
+      ((a_beat narrow request (first_narrow narrow wide number + more)).mask
+      * 2 ^ lane_in_wide narrow wide request.address (first_narrow narrow wide number + more))
+      ≡ gathered 2 (lane_in_wide narrow wide request.address) (λ k. (a_beat narrow request k).mask)
+      (first_narrow narrow wide number) (suc more)
+  pub payload : (narrow wide : ℕ) (request : Request) (number more : ℕ) → IsAsking narrow wide request
+      → number < data_beats request.size wide → more < narrow_count narrow wide request.size
+      → bit_or (gathered 256 (lane_in_wide narrow wide request.address) (λ k. (a_beat narrow request k).payload)
+      (first_narrow narrow wide number) more)
+      ((a_beat narrow request (first_narrow narrow wide number + more)).payload
+      * 256 ^ lane_in_wide narrow wide request.address (first_narrow narrow wide number + more))
+      ≡ gathered 256 (lane_in_wide narrow wide request.address) (λ k. (a_beat narrow request k).payload)
+      (first_narrow narrow wide number) (suc more)
+  pub back : (narrow wide : ℕ) (request : Request) (response : Response) (number more : ℕ)
+      → IsTelling narrow wide request response → number < data_beats response.size wide
+      → more < narrow_count narrow wide response.size
+      → bit_or (gathered 256 (lane_in_wide narrow wide request.address)
+      (λ k. (d_beat narrow request.address response k).payload) (first_narrow narrow wide number) more)
+      ((d_beat narrow request.address response (first_narrow narrow wide number + more)).payload
+      * 256 ^ lane_in_wide narrow wide request.address (first_narrow narrow wide number + more))
+      ≡ gathered 256 (lane_in_wide narrow wide request.address)
+      (λ k. (d_beat narrow request.address response k).payload) (first_narrow narrow wide number) (suc more)

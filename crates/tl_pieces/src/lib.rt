@@ -7,5 +7,5 @@ mod laws;
 mod reply;
 
 pub use cut::{cut_at, is_cut, may_be_cut, piece_at, piece_count};
-pub use laws::{cut_law, last_law, narrow_law, piece_beats_law, reply_law, wide_law};
+pub use laws::{cut_law, kept_law, last_law, narrow_law, piece_beats_law, reply_law, wide_law};
 pub use reply::reply_to;
