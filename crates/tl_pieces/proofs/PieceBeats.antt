@@ -1,21 +1,23 @@
 -- The beats of pieces among those of their request.
-use Rattle.std.proofs.Common.{ℕ, ◌≡◌, ◌+◌, ◌*◌, ◌/◌, ◌-◌, ◌<◌, ◌≤◌, inl, inr, List, [], take, replicate, Bool, true, false, cond, IsTrue, ap, sym, ◌∙◌, refl, arith}
+use Rattle.std.proofs.Common.{ℕ, ◌≡◌, ◌+◌, ◌*◌, ◌/◌, ◌-◌, ◌<◌, ◌≤◌, inl, inr, List, [], take, replicate, Bool, true, false, cond, IsTrue, ap, sym, ◌∙◌, refl, arith, zero, suc}
 use Rattle.std.specs.Int.{IsPowerOfTwo}
 use Rattle.std.proofs.Math.Nat.{mul-div_cancel_left}
 use Rattle.std.proofs.lemmas.Bool.{cases_Bool, cond-true, cond-false}
-use Rattle.std.proofs.lemmas.Nat.{row_fits}
+use Rattle.std.proofs.lemmas.Nat.{row_fits, pow_pos}
 use Rattle.std.proofs.lemmas.List.{nil_from_length, drop-replicate, take-replicate}
 use Rattle.tl_params.specs.Arguments.{is_width}
+use Rattle.tl_params.specs.declared.ops.Ack.{Ack}
 use Rattle.tl_params.specs.declared.ops.Op.{Op}
 use Rattle.tl_params.specs.declared.ops.Op.TheVariants.{PutFull, PutPartial, Arithmetic, Logical, Get, Intent}
 use Rattle.tl_edge.specs.declared.message.Request.{Request}
 use Rattle.tl_edge.specs.Bundles.{log_of}
-use Rattle.tl_edge.specs.Messages.{bytes_of, has_data, has_flags}
-use Rattle.tl_edge.specs.Beats.{first_lane, lane_count, on_bits, on_bytes, part, data_beats, request_beats, flags_of, a_beat}
+use Rattle.tl_edge.specs.Messages.{bytes_of, has_data, has_flags, ack_of, brings_data}
+use Rattle.tl_edge.specs.Beats.{first_lane, lane_count, on_bits, on_bytes, part, data_beats, request_beats, response_beats, flags_of, a_beat}
 use Rattle.tl_edge.proofs.Active.{IsBus, bus_of, bus_pos, compared, larger, smaller, first_large, set_part}
 use Rattle.tl_pieces.specs.Cutting.{piece_at, piece_count}
-use Rattle.tl_pieces.specs.CutLaws.{IsCutOn, piece_beats, PieceBeatsLaw}
-use Rattle.tl_pieces.proofs.Parts.{part-part, part-nil, bytes_of-log, larger_than_most, IsWholePieces, whole_pieces, piece_within}
+use Rattle.tl_pieces.specs.CutLaws.{IsCutOn, piece_beats, answer_beats, PieceBeatsLaw}
+use Rattle.tl_pieces.proofs.Placing.{beats_of_large}
+use Rattle.tl_pieces.proofs.Parts.{part-part, part-nil, bytes_of-log, larger_than_most, most_pos, IsWholePieces, whole_pieces, piece_within}
 
 -- a piece has a whole number of beats' bytes
 pub record IsWholeBeats (width most : ℕ) : Type 0 where
@@ -144,5 +146,36 @@ mask_law width most request number beat on below h =
           ∙ sym (ap (λ (flags : List Bool). part width (number * piece_beats width most request + beat) flags) (set_in request [] unflagged))
     ]
 
+-- ---- how many beats all pieces have
+
+data_total : (width most : ℕ) (request : Request) → IsCutOn width most request → data_beats request.size width ≡ piece_count most request * data_beats (log_of most) width
+data_total width most request on =
+    let pieces : IsWholePieces most request = whole_pieces most request on.cuttable.size on.cut in
+    let beats : IsWholeBeats width most = whole_beats width most on.bus on.cuttable.size on.filled in
+    let some : 0 < most = most_pos most on.cuttable.size in
+    let any : 0 < piece_count most request * data_beats (log_of most) width = positive (piece_count most request) (data_beats (log_of most) width) most width (bytes_of request.size) pieces.times beats.is (pow_pos request.size) some in
+    beats_of_large width request.size (piece_count most request * data_beats (log_of most) width) beats.some any
+    (pieces.times ∙ ap (λ (n : ℕ). n * piece_count most request) beats.is ∙ turned (data_beats (log_of most) width) width (piece_count most request))
+  where
+    turned : (c w p : ℕ) → c * w * p ≡ w * (p * c)
+    turned c w p = grind arith
+
+    positive : (p c m w b : ℕ) → b ≡ m * p → m ≡ c * w → 0 < b → 0 < m → 0 < p * c
+    positive zero c m w b e f h k = absurd (omega (arith, e, h))
+    positive (suc p) zero m w b e f h k = absurd (omega (arith, f, k))
+    positive (suc p) (suc c) m w b e f h k = omega arith
+
+count_law : (width most : ℕ) (request : Request) → IsCutOn width most request → has_data request.op ≡ true → request_beats request.op request.size width ≡ piece_count most request * piece_beats width most request
+count_law width most request on h =
+    data_count request.op request.size width h ∙ data_total width most request on ∙ ap (λ (n : ℕ). piece_count most request * n) (sym (data_count request.op (log_of most) width h))
+
+back_count : (ack : Ack) (size width : ℕ) → brings_data ack ≡ true → response_beats ack size width ≡ data_beats size width
+back_count ack size width h = cond-true (brings_data ack) (data_beats size width) 1 h
+
+count_back_law : (width most : ℕ) (request : Request) → IsCutOn width most request → brings_data (ack_of request.op) ≡ true
+    → response_beats (ack_of request.op) request.size width ≡ piece_count most request * answer_beats width most request
+count_back_law width most request on h =
+    back_count (ack_of request.op) request.size width h ∙ data_total width most request on ∙ ap (λ (n : ℕ). piece_count most request * n) (sym (back_count (ack_of request.op) (log_of most) width h))
+
 pub piece_beats_law : PieceBeatsLaw
-piece_beats_law = record { mask = mask_law; payload = payload_law }
+piece_beats_law = record { count = count_law; count_back = count_back_law; mask = mask_law; payload = payload_law }

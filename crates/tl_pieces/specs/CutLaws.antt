@@ -6,7 +6,7 @@ use Rattle.tl_params.specs.Arguments.{is_width}
 use Rattle.tl_edge.specs.declared.message.Request.{Request}
 use Rattle.tl_edge.specs.declared.message.Response.{Response}
 use Rattle.tl_edge.specs.Bundles.{log_of}
-use Rattle.tl_edge.specs.Messages.{IsWholeRequest, IsWholeResponse, ack_of, bytes_of}
+use Rattle.tl_edge.specs.Messages.{IsWholeRequest, IsWholeResponse, ack_of, bytes_of, has_data, brings_data}
 use Rattle.tl_edge.specs.Beats.{a_beat, d_beat, request_beats, response_beats}
 use Rattle.tl_edge.specs.Joined.{told}
 use Rattle.tl_pieces.specs.Cutting.{is_cut, piece_at, piece_count, cut_at, reply_to}
@@ -66,8 +66,15 @@ abbrev pub answer_beats : ℕ → ℕ → Request → ℕ
 answer_beats width most request = response_beats (ack_of request.op) (log_of most) width
 
 -- the beats of the pieces in order have the lanes of the request's beats: mask and data of beat k of piece i are those
--- of beat i n + k of the request, where a piece has n beats
+-- of beat i n + k of the request, where a piece has n beats; with data, all of them are as many as the request's, and
+-- those of the answers with data as many as the reply's
 pub record PieceBeatsLaw : Type 0 where
+  pub count : (width most : ℕ) (request : Request) → IsCutOn width most request → has_data request.op ≡ true
+      → request_beats request.op request.size width ≡ piece_count most request * piece_beats width most request
+  pub count_back : (width most : ℕ) (request : Request) → IsCutOn width most request
+      → brings_data (ack_of request.op) ≡ true
+      → response_beats (ack_of request.op) request.size width
+      ≡ piece_count most request * answer_beats width most request
   pub mask : (width most : ℕ) (request : Request) (number beat : ℕ) → IsCutOn width most request
       → number < piece_count most request → beat < piece_beats width most request
       → (a_beat width (piece_at most request number) beat).mask
