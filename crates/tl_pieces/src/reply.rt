@@ -14,11 +14,11 @@ fn any_denied(answers: &[Response]) -> bool
 }
 
 // Adds bytes at the end of others.
-fn append(data: &mut Bytes, bytes: &[u8]) -> Result<(), Memory>
-    ensures { OnOk result (data.new ≡ data.old ++ bytes.now) }
+fn append(list: &mut Bytes, bytes: &[u8]) -> Result<(), Memory>
+    ensures { OnOk result (list.new ≡ list.old ++ bytes.now) }
 {
     for byte in bytes {
-        data.push(*byte)?;
+        list.push(*byte)?;
     }
     Ok(())
 }
