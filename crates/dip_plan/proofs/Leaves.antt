@@ -25,7 +25,7 @@ use Rattle.tl_params.specs.Arguments.{is_width, fragment_arguments, shrink_argum
 use Rattle.tl_params.specs.Carried.{all_zip, slaves_fit}
 use Rattle.tl_edge.specs.declared.plan.PlanEdge.{PlanEdge}
 use Rattle.tl_edge.specs.declared.plan.Plan.{Plan}
-use Rattle.tl_edge.specs.Plans.{edge_at, no_edge, joined_slaves, width_of}
+use Rattle.tl_edge.specs.Plans.{edge_at, no_edge, joined_slaves, bus_width}
 use Rattle.tl_edge.specs.SoundPlans.{HasShape, Shows, Carries, FillBeats, ids_of, moved_end, LeavesIds, MovesIds}
 use Rattle.tl_rules.specs.Crossbars.{id_count, is_id_count, input_ranges, shifted_master, joined_masters}
 use Rattle.tl_rules.specs.Fits.{has_same_ids, same_ids, has_only_ids, EdgePorts, fragments_fit, shrinks_fit, adapter_fits, inputs_fit, outputs_fit, are_edges, template_fits}
@@ -111,8 +111,8 @@ module _ (above below : EdgePorts) where
   shows : (pieces : Option SizeRange) → slaves_fit pieces above.up.slaves below.up.slaves ≡ true → All (Shows pieces (seen below ∷ [])) (seen above ∷ [])
   shows pieces h = one (Shows pieces (seen below ∷ [])) (seen above) (rw (append-nil below.up.slaves) h)
 
-  widths_same : above.up.beat ≡ below.up.beat → AllPairs (λ edge other. width_of edge ≡ width_of other) (seen above ∷ seen below ∷ [])
-  widths_same h = pair (λ edge other. width_of edge ≡ width_of other) (seen above) (seen below) h
+  widths_same : above.up.beat ≡ below.up.beat → AllPairs (λ edge other. bus_width edge ≡ bus_width other) (seen above ∷ seen below ∷ [])
+  widths_same h = pair (λ edge other. bus_width edge ≡ bus_width other) (seen above) (seen below) h
 
   ends_same : same_ids above.down.masters below.down.masters ≡ true → All (λ ids. (seen below).ids ≡ ids) ((seen above).ids ∷ [])
   ends_same h = one (λ ids. (seen below).ids ≡ ids) (seen above).ids (sym (same_end above.down.masters below.down.masters h))
@@ -138,8 +138,8 @@ module _ (above below : EdgePorts) where
         ids = one (LeavesIds Width args ((seen above).ids ∷ [])) (seen below).ids (ends_same c.1);
       }
     where
-      two_widths : is_width above.up.beat ≡ true → is_width below.up.beat ≡ true → All (λ edge. IsTrue (is_width (width_of edge))) (seen above ∷ seen below ∷ [])
-      two_widths p q = All-cons (λ edge. IsTrue (is_width (width_of edge))) (seen above) (seen below ∷ []) p (one (λ edge. IsTrue (is_width (width_of edge))) (seen below) q)
+      two_widths : is_width above.up.beat ≡ true → is_width below.up.beat ≡ true → All (λ edge. IsTrue (is_width (bus_width edge))) (seen above ∷ seen below ∷ [])
+      two_widths p q = All-cons (λ edge. IsTrue (is_width (bus_width edge))) (seen above) (seen below ∷ []) p (one (λ edge. IsTrue (is_width (bus_width edge))) (seen below) q)
   adapter Fragmenter args h = at (fragment_arguments args) refl h
     where
       at : (o : Option Fragments) → fragment_arguments args ≡ o → fragments_fit o above below ≡ true → Fit Fragmenter args
@@ -153,7 +153,7 @@ module _ (above below : EdgePorts) where
             carries = record {
               slaves = subst (λ (o : Option Fragments). All (Shows (option_map (λ fragments. size_range 1 fragments.piece) o) (seen below ∷ [])) (seen above ∷ [])) (sym e) (shows (Some (size_range 1 f.piece)) c.0);
               widths = widths_same (eqb-true above.up.beat below.up.beat b.1);
-              arguments = subst (λ (o : Option Fragments). FillBeats o (seen below ∷ [])) (sym e) (one (λ edge. width_of edge ≤ f.piece) (seen below) least);
+              arguments = subst (λ (o : Option Fragments). FillBeats o (seen below ∷ [])) (sym e) (one (λ edge. bus_width edge ≤ f.piece) (seen below) least);
             };
             ids = one (LeavesIds Fragmenter args ((seen above).ids ∷ [])) (seen below).ids (ends_same c.1);
           }
@@ -261,11 +261,11 @@ module _ (plan : Plan) (downs : List DownPort) (ups : List UpPort) (made : plan.
       All-cons (λ ids. ids ≡ end) (largest_end (port_down downs x).masters) (ids_of (map show outs)) (sym (same_end ms (port_down downs x).masters b.0) ∙ e) (outputs_move outs end ms e b.1)
 
   -- numbers whose edges have all the same width
-  all_same : (width : ℕ) (xs : List ℕ) → ((x : ℕ) → In x xs → (port_up ups x).beat ≡ width) → All (λ edge. width_of edge ≡ width) (map show xs)
-  all_same width [] h = All-nil (λ edge. width_of edge ≡ width)
-  all_same width (x ∷ xs) h = All-cons (λ edge. width_of edge ≡ width) (show x) (map show xs) (h x (inl refl)) (all_same width xs (λ y i. h y (inr i)))
+  all_same : (width : ℕ) (xs : List ℕ) → ((x : ℕ) → In x xs → (port_up ups x).beat ≡ width) → All (λ edge. bus_width edge ≡ width) (map show xs)
+  all_same width [] h = All-nil (λ edge. bus_width edge ≡ width)
+  all_same width (x ∷ xs) h = All-cons (λ edge. bus_width edge ≡ width) (show x) (map show xs) (h x (inl refl)) (all_same width xs (λ y i. h y (inr i)))
 
-  pairs_same : (width : ℕ) (es : List PlanEdge) → All (λ edge. width_of edge ≡ width) es → AllPairs (λ edge other. width_of edge ≡ width_of other) es
+  pairs_same : (width : ℕ) (es : List PlanEdge) → All (λ edge. bus_width edge ≡ width) es → AllPairs (λ edge other. bus_width edge ≡ bus_width other) es
   pairs_same width es h i j d l m = h i d (omega arith) ∙ sym (h j d m)
 
   crossbar : (args ins outs : List ℕ) (width : ℕ) → are_edges downs ups ins ≡ true → are_edges downs ups outs ≡ true → (1 ≤ length ins) × (1 ≤ length outs)
@@ -285,10 +285,10 @@ module _ (plan : Plan) (downs : List DownPort) (ups : List UpPort) (made : plan.
       })
       (outputs_move outs (moved_end (ids_of (map show ins)) (assigned (ids_of (map show ins)))) (joined_masters (map (port_down downs) ins) (input_ranges (map (port_down downs) ins))) end a.1)
     where
-      both_same : (width : ℕ) (xs ys : List PlanEdge) → All (λ edge. width_of edge ≡ width) xs → All (λ edge. width_of edge ≡ width) ys → All (λ edge. width_of edge ≡ width) (xs ++ ys)
+      both_same : (width : ℕ) (xs ys : List PlanEdge) → All (λ edge. bus_width edge ≡ width) xs → All (λ edge. bus_width edge ≡ width) ys → All (λ edge. bus_width edge ≡ width) (xs ++ ys)
       both_same width [] ys h k = k
       both_same width (x ∷ xs) ys h k =
-          All-cons (λ edge. width_of edge ≡ width) x (xs ++ ys) (h 0 x (omega arith)) (both_same width xs ys (λ i d l. h (suc i) d (omega arith)) k)
+          All-cons (λ edge. bus_width edge ≡ width) x (xs ++ ys) (h 0 x (omega arith)) (both_same width xs ys (λ i d l. h (suc i) d (omega arith)) k)
 
 -- ---- of a design
 

@@ -25,7 +25,7 @@ use Rattle.tl_edge.specs.declared.plan.Leaf.{Leaf}
 use Rattle.tl_edge.specs.declared.plan.PlanEdge.{PlanEdge}
 use Rattle.tl_edge.specs.declared.plan.PlanPort.{PlanPort}
 use Rattle.tl_edge.specs.declared.plan.Plan.{Plan}
-use Rattle.tl_edge.specs.Plans.{edge_at, no_edge, width_of, port_edges, given_edges, taken_edges, times, NoneReturns}
+use Rattle.tl_edge.specs.Plans.{edge_at, no_edge, bus_width, port_edges, given_edges, taken_edges, times, NoneReturns}
 use Rattle.tl_params.specs.Owners.{sets_of}
 use Rattle.tl_params.specs.Aligned.{IsAligned}
 use Rattle.tl_edge.specs.SoundPlans.{IsSmall, HasRanges, IsSoundEdge, IsItsSlave, AreApart, IsShort, HasShape, Carries, MovesIds, IsSound}
@@ -407,8 +407,8 @@ module _ (rules : List StatedRule) (design : Design) (edges : List Edge) (soluti
       (All-cons IsFounded (record { node = port.node; port = port.port; addresses = addresses_at s.ports port.port; supports = s.supports }) []
       (record { some = sets.0.0; sets = sets.1; arithmetic = st.3.0; logical = st.3.1 }) (All-nil IsFounded))
 
-  sink_width : (port : PlanPort) → IsSinkPort port → IsTrue (is_width (width_of (edge_at plan port.edge)))
-  sink_width port s = subst (λ (edge : PlanEdge). IsTrue (is_width (width_of edge))) (sym (sink_edge port s)) (stated_sink port s).0
+  sink_width : (port : PlanPort) → IsSinkPort port → IsTrue (is_width (bus_width (edge_at plan port.edge)))
+  sink_width port s = subst (λ (edge : PlanEdge). IsTrue (is_width (bus_width edge))) (sym (sink_edge port s)) (stated_sink port s).0
 
   answered : (port : PlanPort) → IsSinkPort port → IsItsSlave (edge_at plan port.edge).slaves port
   answered port s = record {
@@ -429,8 +429,8 @@ module _ (rules : List StatedRule) (design : Design) (edges : List Edge) (soluti
       let ids = has_ids down (at_default (λ (d : DownPort). masters_are_wrong d.masters ≡ false) solution.down (record { masters = [] }) x j.masters (within_down x m)) in
       let founded : All IsFounded up.slaves = subst (λ (edge : PlanEdge). All IsFounded edge.slaves) e
       (slaves_upward plan no_return given taken_once leaves IsFounded stays_founded (All-weaker IsSinkPort (λ (port : PlanPort). All IsFounded (edge_at plan port.edge).slaves) sink_slaves plan.sinks all_sinks) x l) in
-      let wide : IsTrue (is_width up.beat) = subst (λ (edge : PlanEdge). IsTrue (is_width (width_of edge))) e
-      (widths_upward plan no_return given taken_once leaves (All-weaker IsSinkPort (λ (port : PlanPort). IsTrue (is_width (width_of (edge_at plan port.edge)))) sink_width plan.sinks all_sinks) x l) in
+      let wide : IsTrue (is_width up.beat) = subst (λ (edge : PlanEdge). IsTrue (is_width (bus_width edge))) e
+      (widths_upward plan no_return given taken_once leaves (All-weaker IsSinkPort (λ (port : PlanPort). IsTrue (is_width (bus_width (edge_at plan port.edge)))) sink_width plan.sinks all_sinks) x l) in
       let ranges : All HasRanges up.slaves = at_default HasSizes solution.up (record { slaves = []; beat = 0 }) x sizes (within_up x m) in
       let disjoint : AllPairs Disjoint (all_sets up.slaves) = at_default HasDisjointSets solution.up (record { slaves = []; beat = 0 }) x j.apart (within_up x m) in
       let aligned : edge_is_misaligned up ≡ false = at_default (λ (u : UpPort). edge_is_misaligned u ≡ false) solution.up (record { slaves = []; beat = 0 }) x j.aligned (within_up x m) in

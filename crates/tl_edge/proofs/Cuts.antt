@@ -8,7 +8,7 @@ use Rattle.std.proofs.lemmas.List.Elements.{All-push}
 use Rattle.std.proofs.lemmas.List.FromFn.{length-map-range_with_len, get_or-map-range_with_len}
 use Rattle.std.proofs.lemmas.Option.{slice_get_within, slice_get-get_or, get_or_from_slice_get}
 use Rattle.tl_edge.specs.Messages.{IsWholeRequest}
-use Rattle.tl_edge.specs.Beats.{a_beat, d_beat, request_beats, response_beats, beats_of_request, beats_of_response}
+use Rattle.tl_edge.specs.Beats.{a_beat, d_beat, request_beats, response_beats, beats_of_request}
 use Rattle.tl_edge.specs.Spelling.{IsFront, IsExchange, beats_back, beat_back, IsCut, PrefixLaw, IsNext, NextLaw, MoreLaw}
 
 -- the first of beats in a row, whatever messages and beats are

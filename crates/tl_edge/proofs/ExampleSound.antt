@@ -20,7 +20,7 @@ use Rattle.tl_params.specs.Arguments.{is_width}
 use Rattle.tl_params.specs.Owners.{sets_of}
 use Rattle.tl_edge.specs.declared.plan.Leaf.{Leaf}
 use Rattle.tl_edge.specs.declared.plan.PlanPort.{PlanPort}
-use Rattle.tl_edge.specs.Plans.{given_edges, taken_edges, edge_at, ins_of, outs_of, width_of}
+use Rattle.tl_edge.specs.Plans.{given_edges, taken_edges, edge_at, ins_of, outs_of, bus_width}
 use Rattle.tl_edge.specs.SoundPlans.{IsSound, IsSoundEdge, IsSmall, HasRanges, HasShape, Carries, Shows, MovesIds, LeavesIds, IsItsSlave, AreApart, IsShort}
 use Rattle.tl_edge.specs.ExamplePlan.{example, edge, example_port, memory, device, reads_and_writes, with_atomics, from_core, from_shrinker, from_dma, to_buffer, to_memory, to_width, to_fragmenter, to_device, shrinker, crossbar, buffer, width_adapter, fragmenter, core, dma, ram, uart}
 use Rattle.tl_edge.proofs.Ways.{each_once, no_way_back, Rises}
@@ -186,28 +186,28 @@ unfolding ones
 carries = five (λ (leaf : Leaf). Carries leaf.template leaf.args (ins_of example leaf) (outs_of example leaf)) shrinker crossbar buffer width_adapter fragmenter
     (record {
       slaves = one (Shows None (from_shrinker ∷ [])) from_core refl;
-      widths = pair (λ a b. width_of a ≡ width_of b) from_core from_shrinker refl;
+      widths = pair (λ a b. bus_width a ≡ bus_width b) from_core from_shrinker refl;
       arguments = (2, refl);
     })
     (record {
       slaves = two (Shows None (to_buffer ∷ to_width ∷ [])) from_shrinker from_dma refl refl;
-      widths = four_pairs (λ a b. width_of a ≡ width_of b) from_shrinker from_dma to_buffer to_width refl refl refl refl refl refl;
+      widths = four_pairs (λ a b. bus_width a ≡ bus_width b) from_shrinker from_dma to_buffer to_width refl refl refl refl refl refl;
       arguments = tt;
     })
     (record {
       slaves = one (Shows None (to_memory ∷ [])) to_buffer refl;
-      widths = pair (λ a b. width_of a ≡ width_of b) to_buffer to_memory refl;
+      widths = pair (λ a b. bus_width a ≡ bus_width b) to_buffer to_memory refl;
       arguments = tt;
     })
     (record {
       slaves = one (Shows None (to_fragmenter ∷ [])) to_width refl;
-      widths = two (λ edge. IsTrue (is_width (width_of edge))) to_width to_fragmenter refl refl;
+      widths = two (λ edge. IsTrue (is_width (bus_width edge))) to_width to_fragmenter refl refl;
       arguments = tt;
     })
     (record {
       slaves = one (Shows (Some (size_range 1 4)) (to_device ∷ [])) to_fragmenter refl;
-      widths = pair (λ a b. width_of a ≡ width_of b) to_fragmenter to_device refl;
-      arguments = one (λ edge. width_of edge ≤ 4) to_device (omega arith);
+      widths = pair (λ a b. bus_width a ≡ bus_width b) to_fragmenter to_device refl;
+      arguments = one (λ edge. bus_width edge ≤ 4) to_device (omega arith);
     })
 
 ids : All (λ (leaf : Leaf). MovesIds leaf.template leaf.args (ins_of example leaf) (outs_of example leaf)) example.leaves

@@ -1,5 +1,5 @@
 -- Beats fit the wires of their edge.
-use Rattle.std.proofs.Common.{ℕ, zero, suc, ◌≡◌, ◌+◌, ◌-◌, ◌*◌, ◌^◌, ◌<◌, ◌≤◌, inl, inr, List, [], ◌∷◌, All, length, get_or, map, Bool, true, false, IsTrue, Some, lit<, ap, sym, ◌∙◌, refl, subst, arith}
+use Rattle.std.proofs.Common.{ℕ, ◌≡◌, ◌*◌, ◌^◌, ◌<◌, ◌≤◌, inl, inr, List, All, get_or, map, Bool, true, false, IsTrue, lit<, ap, sym, refl, subst, arith}
 use Rattle.std.specs.Prelude.{Contains}
 use Rattle.std.specs.Int.{from_bool}
 use Rattle.std.specs.List.{range_with_len}
@@ -7,28 +7,27 @@ use Rattle.std.proofs.lemmas.Bool.{cases_lt, ltb-true, eqb-true}
 use Rattle.std.proofs.lemmas.List.Elements.{All-map, All-contains, All-from_recursion}
 use Rattle.std.proofs.lemmas.List.FromFn.{length-range_with_len, get_or-range_with_len}
 use Rattle.std.proofs.lemmas.Option.{slice_get_within, get_or_from_slice_get}
-use Rattle.dip_sets.specs.Sets.{IsSet, InSome}
+use Rattle.dip_sets.specs.Sets.{IsSet}
 use Rattle.tl_params.specs.declared.ops.Op.{Op}
 use Rattle.tl_params.specs.declared.ops.Op.TheVariants.{PutFull, PutPartial, Arithmetic, Logical, Get, Intent}
 use Rattle.tl_params.specs.declared.ops.Ack.{Ack}
 use Rattle.tl_params.specs.declared.ops.Ack.TheVariants.{Ack as Plain, AckData, HintAck}
 use Rattle.tl_params.specs.declared.ports.Slave.{Slave}
 use Rattle.tl_params.specs.Codes.{code_of_op, code_of_ack}
-use Rattle.tl_params.specs.Operations.{largest}
 use Rattle.tl_edge.specs.declared.beat.ABeat.{ABeat}
 use Rattle.tl_edge.specs.declared.beat.DBeat.{DBeat}
 use Rattle.tl_edge.specs.declared.bundle.Bundle.{Bundle}
 use Rattle.tl_edge.specs.declared.message.Request.{Request}
 use Rattle.tl_edge.specs.declared.message.Response.{Response}
 use Rattle.tl_edge.specs.declared.plan.PlanEdge.{PlanEdge}
-use Rattle.tl_edge.specs.Bundles.{bits_for, digits_of, log_of, largest_transfer, bundle}
+use Rattle.tl_edge.specs.Bundles.{bits_for, log_of, largest_transfer, bundle}
 use Rattle.tl_edge.specs.Messages.{has_param, IsWholeResponse}
 use Rattle.tl_edge.specs.Beats.{a_beat, d_beat, request_beats, response_beats, beats_of_request, beats_of_response}
-use Rattle.tl_edge.specs.BeatLaws.{IsSent, IsSentBack, HasLanes, HasLanesBack}
+use Rattle.tl_edge.specs.BeatLaws.{IsSent, HasLanes, HasLanesBack}
 use Rattle.tl_edge.specs.Legal.{IsOwned, IsLegalOn}
-use Rattle.tl_edge.specs.Plans.{width_of}
+use Rattle.tl_edge.specs.Plans.{bus_width}
 use Rattle.tl_edge.specs.SoundPlans.{IsSoundEdge, IsSmall}
-use Rattle.tl_edge.specs.Wires.{a_fields, d_fields, a_widths, d_widths, FitWires, FitsDown, FitsUp, IsWireWidth, WiresLaw}
+use Rattle.tl_edge.specs.Wires.{a_fields, d_fields, a_widths, d_widths, FitsDown, FitsUp, IsWireWidth, WiresLaw}
 use Rattle.tl_edge.proofs.Active.{IsBus, bus_of, bus_pos}
 use Rattle.tl_edge.proofs.Digits.{byte_shift}
 use Rattle.tl_edge.proofs.Greatest.{bits_law}
@@ -40,9 +39,9 @@ use Rattle.tl_edge.proofs.Widths.{bits_are_least}
 -- what holds of each item that is made by numbers
 pub all_made : {A : Type 0} (P : A → Type 0) (f : ℕ → A) (count : ℕ) → ((number : ℕ) → number < count → P (f number)) → All P (map f (range_with_len 0 count))
 all_made P f count each = All-map P f (range_with_len 0 count) (λ k d below.
-  let within : k < count = omega (arith, below, length-range_with_len 0 count) in
-  let same : get_or (range_with_len 0 count) k d ≡ k = omega (arith, get_or-range_with_len 0 count k d within) in
-  subst (λ (n : ℕ). P (f n)) (sym same) (each k within))
+    let within : k < count = omega (arith, below, length-range_with_len 0 count) in
+    let same : get_or (range_with_len 0 count) k d ≡ k = omega (arith, get_or-range_with_len 0 count k d within) in
+    subst (λ (n : ℕ). P (f n)) (sym same) (each k within))
 
 -- ---- fields tell their beat
 
@@ -155,38 +154,40 @@ legal_fields edge request sound legal =
     let owned : IsOwned edge.slaves request = legal.answerable.owned in
     let listed : Contains edge.slaves owned.slave = (owned.place, slice_get_within edge.slaves owned.place owned.slave owned.is, get_or_from_slice_get edge.slaves owned.place owned.slave owned.slave owned.is) in
     record {
-      size_fits = subst (λ (b : Bundle). request.size < 2 ^ b.size_bits) (sym sound.bundle) (bundle_law.sizes edge.slaves edge.ids (width_of edge) owned.slave request.op request.size listed owned.supports);
-      source_fits = subst (λ (b : Bundle). request.source < 2 ^ b.source_bits) (sym sound.bundle) (bundle_law.ids edge.slaves edge.ids (width_of edge) request.source legal.id);
+      size_fits = subst (λ (b : Bundle). request.size < 2 ^ b.size_bits) (sym sound.bundle) (bundle_law.sizes edge.slaves edge.ids (bus_width edge) owned.slave request.op request.size listed owned.supports);
+      source_fits = subst (λ (b : Bundle). request.source < 2 ^ b.source_bits) (sym sound.bundle) (bundle_law.ids edge.slaves edge.ids (bus_width edge) request.source legal.id);
       address_fits = subst (λ (b : Bundle). request.address < 2 ^ b.address_bits) (sym sound.bundle)
-          (bundle_law.addresses edge.slaves edge.ids (width_of edge) owned.slave request.address listed (owner_has edge.slaves request owned));
+          (bundle_law.addresses edge.slaves edge.ids (bus_width edge) owned.slave request.address listed (owner_has edge.slaves request owned));
     }
 
-sent_on : (edge : PlanEdge) (request : Request) → IsSoundEdge edge → IsLegalOn edge request → IsSent (width_of edge) request
+sent_on : (edge : PlanEdge) (request : Request) → IsSoundEdge edge → IsLegalOn edge request → IsSent (bus_width edge) request
 sent_on edge request sound legal = record { bus = sound.width; whole = legal.answerable.whole }
 
-requests_fit : (edge : PlanEdge) (request : Request) → IsSoundEdge edge → IsLegalOn edge request → All (FitsDown edge) (beats_of_request (width_of edge) request)
-requests_fit edge request sound legal = all_made (FitsDown edge) (a_beat (width_of edge) request) (request_beats request.op request.size (width_of edge)) (λ number below.
-  let fields : Fields edge request.size request.source request.address = legal_fields edge request sound legal in
-  let lanes : HasLanes (width_of edge) request number = lanes_law.requests (width_of edge) request number (sent_on edge request sound legal) below in
-  record {
-    wires = (op_fits request.op, (param_fits request.op request.param legal.answerable.param, (fields.size_fits, (fields.source_fits, (fields.address_fits, (lanes.marks_fit, (bytes_fit (width_of edge) _ lanes.bytes_fit, tt)))))));
-    id = legal.id;
-  })
+requests_fit : (edge : PlanEdge) (request : Request) → IsSoundEdge edge → IsLegalOn edge request → All (FitsDown edge) (beats_of_request (bus_width edge) request)
+requests_fit edge request sound legal = all_made (FitsDown edge) (a_beat (bus_width edge) request) (request_beats request.op request.size (bus_width edge)) (λ number below.
+    let fields : Fields edge request.size request.source request.address = legal_fields edge request sound legal in
+    let lanes : HasLanes (bus_width edge) request number = lanes_law.requests (bus_width edge) request number (sent_on edge request sound legal) below in
+    record {
+      wires = (op_fits request.op, (param_fits request.op request.param legal.answerable.param, (fields.size_fits, (fields.source_fits, (fields.address_fits, (lanes.marks_fit, (bytes_fit (bus_width edge) _ lanes.bytes_fit, tt)))))));
+      id = legal.id;
+    })
 
 responses_fit : (edge : PlanEdge) (request : Request) (response : Response) → IsSoundEdge edge → IsLegalOn edge request → IsWholeResponse request response
-    → All (FitsUp edge) (beats_of_response (width_of edge) request.address response)
-responses_fit edge request response sound legal back = all_made (FitsUp edge) (d_beat (width_of edge) request.address response) (response_beats response.op response.size (width_of edge)) (λ number below.
-  let fields : Fields edge request.size request.source request.address = legal_fields edge request sound legal in
-  let lanes : HasLanesBack (width_of edge) request.address response number =
-  lanes_law.responses (width_of edge) request response number (record { sent = sent_on edge request sound legal; whole = back }) below in
-  record {
-    wires = (
-      ack_fits response.op,
-      (subst (λ (n : ℕ). n < 2 ^ edge.bundle.size_bits) (sym back.answers.size) fields.size_fits,
-        (subst (λ (n : ℕ). n < 2 ^ edge.bundle.source_bits) (sym back.answers.source) fields.source_fits, (flag_fits response.denied, (bytes_fit (width_of edge) _ lanes.bytes_fit, tt)))),
-    );
-    id = subst (λ (n : ℕ). n < edge.ids) (sym back.answers.source) legal.id;
-  })
+    → All (FitsUp edge) (beats_of_response (bus_width edge) request.address response)
+responses_fit edge request response sound legal back = all_made (FitsUp edge) (d_beat (bus_width edge) request.address response) (response_beats response.op response.size (bus_width edge)) (λ number below.
+    let fields : Fields edge request.size request.source request.address = legal_fields edge request sound legal in
+    let lanes : HasLanesBack (bus_width edge) request.address response number =
+    lanes_law.responses (bus_width edge) request response number (record { sent = sent_on edge request sound legal; whole = back }) below in
+    record {
+      wires = (
+        ack_fits response.op,
+        (
+          subst (λ (n : ℕ). n < 2 ^ edge.bundle.size_bits) (sym back.answers.size) fields.size_fits,
+          (subst (λ (n : ℕ). n < 2 ^ edge.bundle.source_bits) (sym back.answers.source) fields.source_fits, (flag_fits response.denied, (bytes_fit (bus_width edge) _ lanes.bytes_fit, tt))),
+        ),
+      );
+      id = subst (λ (n : ℕ). n < edge.ids) (sym back.answers.source) legal.id;
+    })
 
 -- ---- how many bits the fields of a sound edge have
 
@@ -209,22 +210,22 @@ record Bits (edge : PlanEdge) : Type 0 where
   pub size : IsWireWidth edge.bundle.size_bits
   pub source : IsWireWidth edge.bundle.source_bits
   pub address : IsWireWidth edge.bundle.address_bits
-  pub mask : IsWireWidth (width_of edge)
-  pub payload : IsWireWidth (8 * width_of edge)
+  pub mask : IsWireWidth (bus_width edge)
+  pub payload : IsWireWidth (8 * bus_width edge)
 
 sound_bits : (edge : PlanEdge) → IsSoundEdge edge → Bits edge
 sound_bits edge sound =
-    let bus : IsBus (width_of edge) = bus_of (width_of edge) sound.width in
-    let few_ids : (bundle edge.slaves edge.ids (width_of edge)).source_bits ≤ 10 = bundle_law.least_ids edge.slaves edge.ids (width_of edge) 10 (omega arith) (λ id below. omega (arith, below, sound.few_ids)) in
-    let few_addresses : (bundle edge.slaves edge.ids (width_of edge)).address_bits ≤ 48 =
-    bundle_law.least_addresses edge.slaves edge.ids (width_of edge) 48 (omega arith)
+    let bus : IsBus (bus_width edge) = bus_of (bus_width edge) sound.width in
+    let few_ids : (bundle edge.slaves edge.ids (bus_width edge)).source_bits ≤ 10 = bundle_law.least_ids edge.slaves edge.ids (bus_width edge) 10 (omega arith) (λ id below. omega (arith, below, sound.few_ids)) in
+    let few_addresses : (bundle edge.slaves edge.ids (bus_width edge)).address_bits ≤ 48 =
+    bundle_law.least_addresses edge.slaves edge.ids (bus_width edge) 48 (omega arith)
     (λ slave address listed member. small_address slave.addresses address (All-contains (λ (s : Slave). All IsSet s.addresses) edge.slaves slave sound.sets listed) member) in
     record {
       size = subst (λ (b : Bundle). IsWireWidth b.size_bits) (sym sound.bundle) (omega arith, omega (arith, few_size_bits edge.slaves sound.small));
       source = subst (λ (b : Bundle). IsWireWidth b.source_bits) (sym sound.bundle) (omega arith, omega (arith, few_ids));
       address = subst (λ (b : Bundle). IsWireWidth b.address_bits) (sym sound.bundle) (omega arith, omega (arith, few_addresses));
-      mask = (omega (arith, bus_pos (width_of edge) bus), omega (arith, bus.small));
-      payload = (omega (arith, bus_pos (width_of edge) bus), omega (arith, bus.small));
+      mask = (omega (arith, bus_pos (bus_width edge) bus), omega (arith, bus.small));
+      payload = (omega (arith, bus_pos (bus_width edge) bus), omega (arith, bus.small));
     }
 
 a_bits : (edge : PlanEdge) → IsSoundEdge edge → All IsWireWidth (a_widths edge.bundle)

@@ -1,15 +1,14 @@
 -- What the wires of a bundle hold.
-use Rattle.std.proofs.Common.{ℕ, zero, suc, ◌≡◌, ◌+◌, ◌-◌, ◌*◌, ◌^◌, ◌<◌, ◌≤◌, max, inl, inr, List, lit<, ap, sym, ◌∙◌, refl, arith, pow_pos}
+use Rattle.std.proofs.Common.{ℕ, ◌-◌, ◌^◌, ◌<◌, ◌≤◌, inl, inr, List, arith, pow_pos}
 use Rattle.std.specs.Prelude.{Contains}
-use Rattle.std.proofs.Math.Nat.{pow-le-pow_right}
 use Rattle.std.proofs.lemmas.Bool.{cases_lt}
 use Rattle.dip_sets.specs.Sets.{InSome}
 use Rattle.dip_sets.specs.SizeRanges.{HasSize}
 use Rattle.tl_params.specs.declared.ops.Op.{Op}
 use Rattle.tl_params.specs.declared.ports.Slave.{Slave}
-use Rattle.tl_params.specs.Operations.{largest, sizes_of}
+use Rattle.tl_params.specs.Operations.{sizes_of}
 use Rattle.tl_params.proofs.Largest.{largest_is}
-use Rattle.tl_edge.specs.Bundles.{digits_of, bits_for, log_of, greatest_address, largest_transfer, bundle, BundleLaw}
+use Rattle.tl_edge.specs.Bundles.{digits_of, log_of, greatest_address, largest_transfer, bundle, BundleLaw}
 use Rattle.tl_edge.proofs.Widths.{bits_are_least, digits_holds, exponents-lt}
 use Rattle.tl_edge.proofs.Greatest.{bits_law}
 

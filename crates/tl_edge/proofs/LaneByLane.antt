@@ -5,7 +5,7 @@ use Rattle.std.specs.List.{take-map, drop-map}
 use Rattle.std.proofs.Math.Nat.{pow-le-pow_right, one-le-pow, pow-succ', pow-zero, mul-mod_right, mul-div_cancel_left, div-div-eq-div-mul, zero-div, div-one, add-mul-mod_self_left, add-mul-div_left, mod-eq_of_lt, div-eq_of_lt}
 use Rattle.std.proofs.Math.ListN.{get_or-map}
 use Rattle.std.proofs.lemmas.Bool.{cases_lt, true≢false, false≢true}
-use Rattle.std.proofs.lemmas.Nat.{pow-add}
+use Rattle.std.proofs.lemmas.Nat.{pow-add, div_below, div-add-mod'}
 use Rattle.std.proofs.lemmas.List.{length-map, length-take, length-replicate, get_or-replicate, get_or-take, get_or-drop, get_or_past}
 use Rattle.tl_params.specs.Arguments.{is_width}
 use Rattle.tl_edge.specs.declared.message.Request.{Request}
@@ -170,8 +170,27 @@ response_lanes width request response number sent_back =
     let all = are_back response.denied width response.size request.address number response.payload _ granted in
     record { bytes_fit = all.fits; bytes = all.at; other_bytes = all.other; denied = all.none }
 
+-- ---- a number is known by its lanes
+
+next_lane : (base lane n : ℕ) → lane_of base lane (n / base) ≡ lane_of base (suc lane) n
+next_lane base lane n = ap (λ (k : ℕ). k % base) (div-div-eq-div-mul n base (base ^ lane)) ∙ sym (ap (λ (k : ℕ). n / k % base) (pow-succ' base lane))
+
+first_lane_of : (base n : ℕ) → lane_of base 0 n ≡ n % base
+first_lane_of base n = ap (λ (k : ℕ). n / k % base) (pow-zero base) ∙ ap (λ (k : ℕ). k % base) (div-one n)
+
+same_lanes : (base lanes n other : ℕ) → 0 < base → n < base ^ lanes → other < base ^ lanes → ((lane : ℕ) → lane < lanes → lane_of base lane n ≡ lane_of base lane other) → n ≡ other
+same_lanes base zero n other b h k same = omega (arith, h, k, pow-zero base)
+same_lanes base (suc lanes) n other b h k same =
+    let first : n % base ≡ other % base = sym (first_lane_of base n) ∙ same 0 (omega arith) ∙ first_lane_of base other in
+    let turned : base ^ suc lanes ≡ base ^ lanes * base = pow-succ' base lanes ∙ grind arith in
+    let rest : n / base ≡ other / base =
+    same_lanes base lanes (n / base) (other / base) b (div_below n base (base ^ lanes) b (omega (arith, h, turned))) (div_below other base (base ^ lanes) b (omega (arith, k, turned)))
+    (λ lane below. next_lane base lane n ∙ same (suc lane) (omega (arith, below)) ∙ sym (next_lane base lane other)) in
+    omega (arith, first, div-add-mod' n base, div-add-mod' other base, ap (λ (q : ℕ). q * base) rest)
+
 pub lanes_law : LanesLaw
 lanes_law = record {
+  same = same_lanes;
   requests = λ width request number sent h. request_lanes width request number sent;
   responses = λ width request response number back h. response_lanes width request response number back;
 }

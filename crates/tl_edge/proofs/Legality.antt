@@ -1,9 +1,9 @@
 -- What legal requests have.
-use Rattle.std.proofs.Common.{ℕ, ◌≡◌, ◌<◌, ◌≤◌, ◌^◌, List, All, Some, slice_get, get_or, bit_or, sym, refl, subst, arith}
+use Rattle.std.proofs.Common.{ℕ, ◌≡◌, ◌<◌, ◌≤◌, ◌^◌, List, All, subst, arith}
 use Rattle.std.specs.Prelude.{Any}
 use Rattle.std.proofs.lemmas.Nat.{or_lt}
 use Rattle.std.proofs.lemmas.List.Elements.{All-contains}
-use Rattle.dip_sets.specs.Sets.{Pattern, In, InSome, IsSet}
+use Rattle.dip_sets.specs.Sets.{Pattern, InSome, IsSet}
 use Rattle.tl_params.specs.declared.ports.Master.{Master}
 use Rattle.tl_params.specs.declared.ports.Slave.{Slave}
 use Rattle.tl_params.specs.OwnerLaw.{HaveSets, Owns}

@@ -14,7 +14,7 @@ use Rattle.tl_params.specs.declared.ops.Op.TheVariants.{PutFull, PutPartial, Ari
 use Rattle.tl_edge.specs.declared.message.Request.{Request}
 use Rattle.tl_edge.specs.declared.message.Response.{Response}
 use Rattle.tl_edge.specs.declared.beat.DBeat.{DBeat}
-use Rattle.tl_edge.specs.Messages.{bytes_of, has_data, has_flags, brings_data, IsWholeRequest, IsWholeResponse, AreBytes}
+use Rattle.tl_edge.specs.Messages.{bytes_of, has_data, has_flags, brings_data, IsWholeRequest, AreBytes}
 use Rattle.tl_edge.specs.Beats.{of_digits, on_lanes, on_bits, on_bytes, part, first_lane, lane_count, data_beats, a_beat, d_beat, request_beats, response_beats, beats_of_request, beats_of_response, data_on_lanes}
 use Rattle.tl_edge.specs.Joined.{digits, active_digits, bytes_in, flags_in, bytes_back, joined_request, joined_response, told}
 use Rattle.tl_edge.specs.BeatLaws.{IsSent, IsSentBack, IsActive, lane_of, JoinLaw, SameLaw}
@@ -324,10 +324,10 @@ other_lane_told width request asked response other back back_too differ same =
     let lengths : length response.payload ≡ length other.payload = same_length width request asked response other back back_too ops sizes in
     told_parts response other ops sizes (ap (λ (beat : DBeat). beat.source) same) denials lengths
     (λ granted.
-      ext_get_or 0 response.payload other.payload lengths
-      (λ j within.
-        zero_byte width request asked response other j back back_too (sym sizes) granted same differ (omega (arith, within, payload_length width request response back))
-        ∙ sym (zero_byte width asked request other response j back_too back sizes (sym denials ∙ granted) (sym same) (λ e. differ (sym e)) (omega (arith, within, lengths, payload_length width asked other back_too)))))
+    ext_get_or 0 response.payload other.payload lengths
+    (λ j within.
+    zero_byte width request asked response other j back back_too (sym sizes) granted same differ (omega (arith, within, payload_length width request response back))
+    ∙ sym (zero_byte width asked request other response j back_too back sizes (sym denials ∙ granted) (sym same) (λ e. differ (sym e)) (omega (arith, within, lengths, payload_length width asked other back_too)))))
 
 same_told : (width : ℕ) (request asked : Request) (response other : Response) → IsSentBack width request response → IsSentBack width asked other
     → beats_of_response width request.address response ≡ beats_of_response width asked.address other → told response ≡ told other

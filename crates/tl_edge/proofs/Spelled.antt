@@ -1,5 +1,5 @@
 -- Lists of beats that spell lists of messages.
-use Rattle.std.proofs.Common.{ℕ, zero, suc, ◌≡◌, ◌+◌, ◌<◌, ◌≤◌, inl, inr, List, [], ◌∷◌, ◌++◌, length, take, drop, map, IsTrue, ap, sym, ◌∙◌, refl, subst, arith}
+use Rattle.std.proofs.Common.{ℕ, zero, suc, ◌≡◌, ◌+◌, ◌<◌, ◌≤◌, inl, inr, List, [], ◌∷◌, ◌++◌, length, take, drop, map, IsTrue, ap, sym, ◌∙◌, refl, arith}
 use Rattle.std.specs.Prelude.{All}
 use Rattle.std.specs.List.{flat_map, range_with_len, AllByRecursion, AllZip}
 use Rattle.std.proofs.lemmas.List.{append_assoc, append-nil, length-append, length-take, take_at, drop_at}
@@ -9,8 +9,8 @@ use Rattle.tl_params.specs.Arguments.{is_width}
 use Rattle.tl_edge.specs.declared.message.Request.{Request}
 use Rattle.tl_edge.specs.declared.beat.ABeat.{ABeat}
 use Rattle.tl_edge.specs.declared.beat.DBeat.{DBeat}
-use Rattle.tl_edge.specs.Messages.{IsWholeRequest, IsWholeResponse}
-use Rattle.tl_edge.specs.Beats.{a_beat, d_beat, request_beats, response_beats, beats_of_request, beats_of_response}
+use Rattle.tl_edge.specs.Messages.{IsWholeRequest}
+use Rattle.tl_edge.specs.Beats.{a_beat, d_beat, request_beats, response_beats, beats_of_request}
 use Rattle.tl_edge.specs.Spelling.{IsFront, BeginsRequest, SpellsUpTo, Exchange, IsExchange, beats_back, BeginsResponse, SpellsBackUpTo, TellsSame, SpellingLaw}
 use Rattle.tl_edge.proofs.Heads.{heads_law}
 use Rattle.tl_edge.proofs.Reading.{flat_map-map, same_law}

@@ -1,5 +1,5 @@
 -- How the edges and leaves of a plan stand: each edge once, and no way back.
-use Rattle.std.proofs.Common.{ℕ, zero, suc, ◌+◌, ◌<◌, ◌≤◌, ◌≡◌, inl, inr, List, [], ◌∷◌, ◌++◌, length, Bool, true, false, ◌&&◌, ◌==◌, All, AllPairs, Some, get_or, slice_get, unwrap_or, sym, ap, ◌∙◌, refl, subst, arith, eqb}
+use Rattle.std.proofs.Common.{ℕ, zero, suc, ◌+◌, ◌<◌, ◌≤◌, ◌≡◌, inl, inr, List, [], ◌∷◌, ◌++◌, length, Bool, true, false, ◌&&◌, ◌==◌, All, AllPairs, Some, get_or, slice_get, unwrap_or, sym, ap, ◌∙◌, subst, arith, eqb}
 use Rattle.std.specs.Prelude.{Contains}
 use Rattle.std.specs.List.{AllByRecursion, IsDistinct}
 use Rattle.std.proofs.lemmas.Bool.{cases_eq, ne_eqb}
@@ -11,12 +11,11 @@ use Rattle.dip_sets.proofs.Lists.{pairs_none}
 use Rattle.tl_params.specs.declared.ops.Template.{Template}
 use Rattle.tl_params.specs.declared.ops.Template.TheVariants.{Buffer, Width, Fragmenter, Shrinker, Xbar}
 use Rattle.tl_edge.specs.declared.plan.Leaf.{Leaf}
-use Rattle.tl_edge.specs.declared.plan.PlanPort.{PlanPort}
 use Rattle.tl_edge.specs.declared.plan.Plan.{Plan}
-use Rattle.tl_edge.specs.Plans.{times, given_edges, taken_edges, Giver, Out, Source, Taker, In, Sink, Gives, Takes, Follows, IsWay, NoneReturns}
+use Rattle.tl_edge.specs.Plans.{times, given_edges, taken_edges, Giver, Out, Source, Taker, In, Sink, GivesTo, TakesFrom, LeadsTo, IsWay, NoneReturns}
 use Rattle.tl_edge.specs.SoundPlans.{IsSound, HasShape}
 use Rattle.tl_edge.specs.PlanLaws.{IsOne, EndsLaw, WaysLaw}
-use Rattle.tl_edge.proofs.Once.{Stands, PortAt, AtLeaf, AtPort, one_end, few_ends, few_distinct, leaf_listed, port_listed}
+use Rattle.tl_edge.proofs.Once.{AtLeaf, AtPort, one_end, few_ends, few_distinct, leaf_listed, port_listed}
 
 -- ---- numbers below a bound that each stand once
 
@@ -59,41 +58,41 @@ no_way_back plan all edge others way back = let less : edge < edge = rising plan
 
 -- ---- each edge has one giver and one taker
 
-pub giver : (plan : Plan) (edge : ℕ) → IsSound plan → edge < length plan.edges → IsOne (Gives plan edge)
+pub giver : (plan : Plan) (edge : ℕ) → IsSound plan → edge < length plan.edges → IsOne (GivesTo plan edge)
 giver plan edge sound within = elim (one_end (λ (leaf : Leaf). leaf.outs) plan.leaves plan.sources edge (sound.given_once edge within)) [
   | inl at ↦ (Out at.leaf at.place, at.is, at_leaf at)
   | inr at ↦ (Source at.port, at.is, at_port at)
 ]
   where
-    at_leaf : (at : AtLeaf (λ (leaf : Leaf). leaf.outs) plan.leaves plan.sources edge) (other : Giver) → Gives plan edge other → other ≡ Out at.leaf at.place
+    at_leaf : (at : AtLeaf (λ (leaf : Leaf). leaf.outs) plan.leaves plan.sources edge) (other : Giver) → GivesTo plan edge other → other ≡ Out at.leaf at.place
     at_leaf at (Out l q) g = let same = at.one l q g in cc
     at_leaf at (Source port) g = absurd (at.none port g)
 
-    at_port : (at : AtPort (λ (leaf : Leaf). leaf.outs) plan.leaves plan.sources edge) (other : Giver) → Gives plan edge other → other ≡ Source at.port
+    at_port : (at : AtPort (λ (leaf : Leaf). leaf.outs) plan.leaves plan.sources edge) (other : Giver) → GivesTo plan edge other → other ≡ Source at.port
     at_port at (Out l q) g = absurd (at.none l q g)
     at_port at (Source port) g = ap (λ (n : ℕ). Source n) (at.one port g)
 
-pub taker : (plan : Plan) (edge : ℕ) → IsSound plan → edge < length plan.edges → IsOne (Takes plan edge)
+pub taker : (plan : Plan) (edge : ℕ) → IsSound plan → edge < length plan.edges → IsOne (TakesFrom plan edge)
 taker plan edge sound within = elim (one_end (λ (leaf : Leaf). leaf.ins) plan.leaves plan.sinks edge (sound.taken_once edge within)) [
   | inl at ↦ (In at.leaf at.place, at.is, at_leaf at)
   | inr at ↦ (Sink at.port, at.is, at_port at)
 ]
   where
-    at_leaf : (at : AtLeaf (λ (leaf : Leaf). leaf.ins) plan.leaves plan.sinks edge) (other : Taker) → Takes plan edge other → other ≡ In at.leaf at.place
+    at_leaf : (at : AtLeaf (λ (leaf : Leaf). leaf.ins) plan.leaves plan.sinks edge) (other : Taker) → TakesFrom plan edge other → other ≡ In at.leaf at.place
     at_leaf at (In l q) g = let same = at.one l q g in cc
     at_leaf at (Sink port) g = absurd (at.none port g)
 
-    at_port : (at : AtPort (λ (leaf : Leaf). leaf.ins) plan.leaves plan.sinks edge) (other : Taker) → Takes plan edge other → other ≡ Sink at.port
+    at_port : (at : AtPort (λ (leaf : Leaf). leaf.ins) plan.leaves plan.sinks edge) (other : Taker) → TakesFrom plan edge other → other ≡ Sink at.port
     at_port at (In l q) g = absurd (at.none l q g)
     at_port at (Sink port) g = ap (λ (n : ℕ). Sink n) (at.one port g)
 
-given_within : (plan : Plan) (edge : ℕ) (giver : Giver) → All (λ e. e < length plan.edges) (given_edges plan) → Gives plan edge giver → edge < length plan.edges
+given_within : (plan : Plan) (edge : ℕ) (giver : Giver) → All (λ e. e < length plan.edges) (given_edges plan) → GivesTo plan edge giver → edge < length plan.edges
 given_within plan edge (Out leaf place) given g =
     All-contains (λ e. e < length plan.edges) (given_edges plan) edge given (leaf_listed (λ (leaf : Leaf). leaf.outs) plan.leaves plan.sources edge leaf place g)
 given_within plan edge (Source port) given g =
     All-contains (λ e. e < length plan.edges) (given_edges plan) edge given (port_listed (λ (leaf : Leaf). leaf.outs) plan.leaves plan.sources edge port g)
 
-taken_within : (plan : Plan) (edge : ℕ) (taker : Taker) → IsSound plan → Takes plan edge taker → edge < length plan.edges
+taken_within : (plan : Plan) (edge : ℕ) (taker : Taker) → IsSound plan → TakesFrom plan edge taker → edge < length plan.edges
 taken_within plan edge (In leaf place) sound g =
     All-contains (λ e. e < length plan.edges) (taken_edges plan) edge sound.taken (leaf_listed (λ (leaf : Leaf). leaf.ins) plan.leaves plan.sinks edge leaf place g)
 taken_within plan edge (Sink port) sound g =
@@ -157,7 +156,7 @@ way_distinct plan none edge [] way = (tt, tt)
 way_distinct plan none edge (next ∷ others) way = (never edge (next ∷ others) (none edge (next ∷ others) way), way_distinct plan none next others way.1)
 
 -- what follows an edge is an edge of the plan
-pub follower_within : (plan : Plan) (edge next : ℕ) → All (λ e. e < length plan.edges) (given_edges plan) → Follows plan edge next → next < length plan.edges
+pub follower_within : (plan : Plan) (edge next : ℕ) → All (λ e. e < length plan.edges) (given_edges plan) → LeadsTo plan edge next → next < length plan.edges
 follower_within plan edge next given f =
     let at : slice_get f.through.outs f.given.0 ≡ Some next =
     slice_get-get_or f.through.outs f.given.0 next f.given.1 ∙ ap (λ (n : ℕ). Some n) f.given.2 in
@@ -174,8 +173,8 @@ short_way plan edge others none given within way =
     few_distinct (edge ∷ others) (length plan.edges) (way_distinct plan none edge others way) (way_within plan edge others given within way)
 
 -- a way as far as an edge on it, and one step more
-one_more : (plan : Plan) (first : ℕ) (others : List ℕ) (back next : ℕ) → IsWay plan first others → Contains (first ∷ others) back → Follows plan back next → (between : List ℕ) × IsWay plan first (between ++ next ∷ [])
-one_more plan first others back next way (zero, below, is) step = ([], (subst (λ (e : ℕ). Follows plan e next) (sym is) step, tt))
+one_more : (plan : Plan) (first : ℕ) (others : List ℕ) (back next : ℕ) → IsWay plan first others → Contains (first ∷ others) back → LeadsTo plan back next → (between : List ℕ) × IsWay plan first (between ++ next ∷ [])
+one_more plan first others back next way (zero, below, is) step = ([], (subst (λ (e : ℕ). LeadsTo plan e next) (sym is) step, tt))
 one_more plan first [] back next way (suc k, below, is) step = absurd (omega arith)
 one_more plan first (second ∷ others) back next way (suc k, below, is) step =
     let rest = one_more plan second others back next way.1 (k, omega arith, is) step in
@@ -185,7 +184,7 @@ never_back : (plan : Plan) (leaf : Leaf) (given taken : ℕ) (others : List ℕ)
     → Contains (given ∷ others) taken → Contains leaf.ins taken → ⊥
 never_back plan leaf given taken others sound listed out way on into =
     let is : slice_get plan.leaves listed.0 ≡ Some leaf = slice_get-get_or plan.leaves listed.0 leaf listed.1 ∙ ap (λ (l : Leaf). Some l) listed.2 in
-    let step : Follows plan taken given = record { leaf = listed.0; through = leaf; is = is; taken = into; given = out } in
+    let step : LeadsTo plan taken given = record { leaf = listed.0; through = leaf; is = is; taken = into; given = out } in
     let round = one_more plan given others taken given way on step in
     sound.acyclic given (round.0 ++ given ∷ []) round.1 (Contains-push round.0 given)
 
@@ -198,13 +197,13 @@ ways_law = record {
 
 -- ---- what is to be shown of each edge may be taken of those that follow it
 
-descend : (plan : Plan) (P : ℕ → Type 0) → ((edge : ℕ) → ((next : ℕ) → Follows plan edge next → P next) → P edge) → (more edge : ℕ)
+descend : (plan : Plan) (P : ℕ → Type 0) → ((edge : ℕ) → ((next : ℕ) → LeadsTo plan edge next → P next) → P edge) → (more edge : ℕ)
     → ((others : List ℕ) → IsWay plan edge others → length others < more) → P edge
 descend plan P step zero edge few = let n : length {A = ℕ} [] < 0 = few [] tt in absurd (omega arith)
 descend plan P step (suc more) edge few =
     step edge (λ next f. descend plan P step more next (λ others way. let n : length (next ∷ others) < suc more = few (next ∷ others) (f, way) in omega arith))
 
-pub edge_by_edge : (plan : Plan) (P : ℕ → Type 0) → NoneReturns plan → All (λ e. e < length plan.edges) (given_edges plan) → ((edge : ℕ) → ((next : ℕ) → Follows plan edge next → P next) → P edge) → (edge : ℕ) → P edge
+pub edge_by_edge : (plan : Plan) (P : ℕ → Type 0) → NoneReturns plan → All (λ e. e < length plan.edges) (given_edges plan) → ((edge : ℕ) → ((next : ℕ) → LeadsTo plan edge next → P next) → P edge) → (edge : ℕ) → P edge
 edge_by_edge plan P none given step edge = descend plan P step (suc (length plan.edges)) edge few
   where
     few : (others : List ℕ) → IsWay plan edge others → length others < suc (length plan.edges)

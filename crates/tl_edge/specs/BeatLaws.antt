@@ -105,8 +105,10 @@ pub record HasLanesBack (width address : ℕ) (response : Response) (number : �
       → lane_of 256 lane (d_beat width address response number).payload ≡ 0
   pub denied : response.denied ≡ true → (d_beat width address response number).payload ≡ 0
 
--- each beat has what is stated on its lanes
+-- each beat has what is stated on its lanes, and a number is known by its lanes
 pub record LanesLaw : Type 0 where
+  pub same : (base lanes n other : ℕ) → 0 < base → n < base ^ lanes → other < base ^ lanes
+      → ((lane : ℕ) → lane < lanes → lane_of base lane n ≡ lane_of base lane other) → n ≡ other
   pub requests : (width : ℕ) (request : Request) (number : ℕ) → IsSent width request
       → number < request_beats request.op request.size width → HasLanes width request number
   pub responses : (width : ℕ) (request : Request) (response : Response) (number : ℕ)

@@ -2,7 +2,7 @@
 use Rattle.std.specs.Prelude.{ℕ, ◌≡◌, ◌+◌, ◌<◌, ◌≤◌, List, ◌∷◌, length, Contains, AllPairs}
 use Rattle.tl_edge.specs.declared.plan.Leaf.{Leaf}
 use Rattle.tl_edge.specs.declared.plan.Plan.{Plan}
-use Rattle.tl_edge.specs.Plans.{Giver, Taker, Gives, Takes, Follows, IsWay}
+use Rattle.tl_edge.specs.Plans.{Giver, Taker, GivesTo, TakesFrom, IsWay}
 use Rattle.tl_edge.specs.SoundPlans.{IsSound}
 
 -- something is so of one alone
@@ -12,11 +12,11 @@ IsOne {A = A} P = (x : A) × P x × ((y : A) → P y → y ≡ x)
 -- each edge has one giver and one taker, what gives or takes does so at an edge of the plan, and there are no more
 -- leaves and ports than edges
 pub record EndsLaw : Type 0 where
-  pub giver : (plan : Plan) (edge : ℕ) → IsSound plan → edge < length plan.edges → IsOne (Gives plan edge)
-  pub taker : (plan : Plan) (edge : ℕ) → IsSound plan → edge < length plan.edges → IsOne (Takes plan edge)
-  pub given : (plan : Plan) (edge : ℕ) (giver : Giver) → IsSound plan → Gives plan edge giver
+  pub giver : (plan : Plan) (edge : ℕ) → IsSound plan → edge < length plan.edges → IsOne (GivesTo plan edge)
+  pub taker : (plan : Plan) (edge : ℕ) → IsSound plan → edge < length plan.edges → IsOne (TakesFrom plan edge)
+  pub given : (plan : Plan) (edge : ℕ) (giver : Giver) → IsSound plan → GivesTo plan edge giver
       → edge < length plan.edges
-  pub taken : (plan : Plan) (edge : ℕ) (taker : Taker) → IsSound plan → Takes plan edge taker
+  pub taken : (plan : Plan) (edge : ℕ) (taker : Taker) → IsSound plan → TakesFrom plan edge taker
       → edge < length plan.edges
   pub givers : (plan : Plan) → IsSound plan → length plan.leaves + length plan.sources ≤ length plan.edges
   pub takers : (plan : Plan) → IsSound plan → length plan.leaves + length plan.sinks ≤ length plan.edges

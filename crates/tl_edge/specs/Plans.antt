@@ -35,8 +35,8 @@ abbrev pub joined_slaves : List PlanEdge → List Slave
 joined_slaves edges = flat_map (λ (edge : PlanEdge). edge.slaves) edges
 
 -- the width of an edge's bus, in bytes
-abbrev pub width_of : PlanEdge → ℕ
-width_of edge = edge.bundle.data_bytes
+abbrev pub bus_width : PlanEdge → ℕ
+bus_width edge = edge.bundle.data_bytes
 
 -- ---- who puts requests onto edges, and who takes them
 
@@ -68,21 +68,21 @@ pub data Taker : Type 0 where
   Sink : (port : ℕ) → Taker
 
 -- a giver puts requests onto an edge
-abbrev pub Gives : Plan → ℕ → Giver → Type 0
-Gives plan edge (Out leaf place) =
+abbrev pub GivesTo : Plan → ℕ → Giver → Type 0
+GivesTo plan edge (Out leaf place) =
     (above : Leaf) × (slice_get plan.leaves leaf ≡ Some above) × (slice_get above.outs place ≡ Some edge)
-Gives plan edge (Source port) = (at : PlanPort) × (slice_get plan.sources port ≡ Some at) × (at.edge ≡ edge)
+GivesTo plan edge (Source port) = (at : PlanPort) × (slice_get plan.sources port ≡ Some at) × (at.edge ≡ edge)
 
 -- a taker takes them from it
-abbrev pub Takes : Plan → ℕ → Taker → Type 0
-Takes plan edge (In leaf place) =
+abbrev pub TakesFrom : Plan → ℕ → Taker → Type 0
+TakesFrom plan edge (In leaf place) =
     (below : Leaf) × (slice_get plan.leaves leaf ≡ Some below) × (slice_get below.ins place ≡ Some edge)
-Takes plan edge (Sink port) = (at : PlanPort) × (slice_get plan.sinks port ≡ Some at) × (at.edge ≡ edge)
+TakesFrom plan edge (Sink port) = (at : PlanPort) × (slice_get plan.sinks port ≡ Some at) × (at.edge ≡ edge)
 
 -- ---- ways from edge to edge
 
 -- requests go from an edge on to the next: a leaf takes from the one and gives to the other
-pub record Follows (plan : Plan) (edge next : ℕ) : Type 0 where
+pub record LeadsTo (plan : Plan) (edge next : ℕ) : Type 0 where
   pub leaf : ℕ
   pub through : Leaf
   pub is : slice_get plan.leaves leaf ≡ Some through
@@ -92,7 +92,7 @@ pub record Follows (plan : Plan) (edge next : ℕ) : Type 0 where
 -- a way: from an edge over others in a row, each followed by the next
 abbrev pub IsWay : Plan → ℕ → List ℕ → Type 0
 IsWay plan edge [] = Unit {0}
-IsWay plan edge (next ∷ others) = Follows plan edge next × IsWay plan next others
+IsWay plan edge (next ∷ others) = LeadsTo plan edge next × IsWay plan next others
 
 -- no way comes back to the edge from which it starts
 abbrev pub NoneReturns : Plan → Type 0

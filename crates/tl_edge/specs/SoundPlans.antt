@@ -21,7 +21,7 @@ use Rattle.tl_edge.specs.declared.plan.PlanEdge.{PlanEdge}
 use Rattle.tl_edge.specs.declared.plan.PlanPort.{PlanPort}
 use Rattle.tl_edge.specs.declared.plan.Plan.{Plan}
 use Rattle.tl_edge.specs.Bundles.{bundle}
-use Rattle.tl_edge.specs.Plans.{edge_at, ins_of, outs_of, joined_slaves, width_of, given_edges, taken_edges, times, NoneReturns}
+use Rattle.tl_edge.specs.Plans.{edge_at, ins_of, outs_of, joined_slaves, bus_width, given_edges, taken_edges, times, NoneReturns}
 
 -- ---- an edge by itself
 
@@ -39,8 +39,8 @@ HasRanges slave = (op : Op) → IsTrue (is_size_range (sizes_of slave.supports o
 pub record IsSoundEdge (edge : PlanEdge) : Type 0 where
   pub some_ids : 1 ≤ edge.ids
   pub few_ids : edge.ids ≤ 1024
-  pub width : IsTrue (is_width (width_of edge))
-  pub bundle : edge.bundle ≡ bundle edge.slaves edge.ids (width_of edge)
+  pub width : IsTrue (is_width (bus_width edge))
+  pub bundle : edge.bundle ≡ bundle edge.slaves edge.ids (bus_width edge)
   pub addressed : All (λ (slave : Slave). 1 ≤ length slave.addresses) edge.slaves
   pub sets : HaveSets edge.slaves
   pub sizes : All HasRanges edge.slaves
@@ -67,13 +67,13 @@ Shows pieces others edge = IsTrue (slaves_fit pieces edge.slaves (joined_slaves 
 
 -- buses of different widths meet at a width adapter alone
 abbrev pub WidthsAgree : Template → List PlanEdge → Type 0
-WidthsAgree Width edges = All (λ edge. IsTrue (is_width (width_of edge))) edges
-WidthsAgree _ edges = AllPairs (λ edge other. width_of edge ≡ width_of other) edges
+WidthsAgree Width edges = All (λ edge. IsTrue (is_width (bus_width edge))) edges
+WidthsAgree _ edges = AllPairs (λ edge other. bus_width edge ≡ bus_width other) edges
 
 -- a fragmenter's pieces have at least the bytes of one beat of what they go to
 abbrev pub FillBeats : Option Fragments → List PlanEdge → Type 0
 FillBeats None outs = ⊥
-FillBeats (Some fragments) outs = All (λ edge. width_of edge ≤ fragments.piece) outs
+FillBeats (Some fragments) outs = All (λ edge. bus_width edge ≤ fragments.piece) outs
 
 -- the arguments of a leaf are such as its template takes, and fit its out edges
 abbrev pub ArgumentsAgree : Template → List ℕ → List PlanEdge → Type 0

@@ -158,7 +158,7 @@ pub record MoreLaw : Type 0 where
       → SpellsBackUpTo width exchanges front beats → IsResponseBegun width number next front
       → number + 1 < response_beats next.response.op next.response.size width
       → SpellsBackUpTo width exchanges (front ++ beat_back width next number ∷ [])
-        (beats ++ beat_back width next number ∷ [])
+      (beats ++ beat_back width next number ∷ [])
   pub last_of_response : (width number : ℕ) (exchanges : List Exchange) (next : Exchange) (front beats : List DBeat)
       → SpellsBackUpTo width exchanges front beats → IsResponseBegun width number next front
       → number + 1 ≡ response_beats next.response.op next.response.size width

@@ -12,7 +12,7 @@ use Rattle.tl_edge.specs.declared.plan.PlanEdge.{PlanEdge}
 use Rattle.tl_edge.specs.Beats.{beats_of_request, beats_of_response}
 use Rattle.tl_edge.specs.Legal.{IsLegalOn}
 use Rattle.tl_edge.specs.Messages.{IsWholeResponse}
-use Rattle.tl_edge.specs.Plans.{width_of}
+use Rattle.tl_edge.specs.Plans.{bus_width}
 use Rattle.tl_edge.specs.SoundPlans.{IsSoundEdge}
 
 -- channel A: opcode, param, size, source, address, mask, data
@@ -58,9 +58,9 @@ pub record WiresLaw : Type 0 where
   pub a_told : (one other : ABeat) → a_fields one ≡ a_fields other → one ≡ other
   pub d_told : (one other : DBeat) → d_fields one ≡ d_fields other → one ≡ other
   pub requests : (edge : PlanEdge) (request : Request) → IsSoundEdge edge → IsLegalOn edge request
-      → All (FitsDown edge) (beats_of_request (width_of edge) request)
+      → All (FitsDown edge) (beats_of_request (bus_width edge) request)
   pub responses : (edge : PlanEdge) (request : Request) (response : Response) → IsSoundEdge edge
       → IsLegalOn edge request → IsWholeResponse request response
-      → All (FitsUp edge) (beats_of_response (width_of edge) request.address response)
+      → All (FitsUp edge) (beats_of_response (bus_width edge) request.address response)
   pub a_widths : (edge : PlanEdge) → IsSoundEdge edge → All IsWireWidth (a_widths edge.bundle)
   pub d_widths : (edge : PlanEdge) → IsSoundEdge edge → All IsWireWidth (d_widths edge.bundle)

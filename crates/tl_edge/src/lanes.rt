@@ -59,8 +59,8 @@ pub(crate) fn data_beats(size: u32, width: u32) -> u32
     ((1 << size) / width).max(1)
 }
 
-/// The part of a list with a number, from 0, of `width` items: what the beat with that number carries, or what the
-/// piece with it has.
+/// The part of a list with a number, from 0, of `width` items: what the beat with that number carries, or
+/// what the piece with it has.
 pub fn part<T>(items: &[T], width: u32, number: u32) -> &[T]
     requires width { width ≤ 256 }
     requires number { number ≤ 256 }

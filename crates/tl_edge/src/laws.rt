@@ -10,8 +10,8 @@ pub fn bits_law()
     ensures { BitsLaw }
 {}
 
-/// The wires of a bundle hold the ids of its edge, the addresses of its slaves and the sizes of their transfers,
-/// with no bit too many for ids and addresses.
+/// The wires of a bundle hold the ids of its edge, the addresses of its slaves and the sizes of their
+/// transfers, with no bit too many for ids and addresses.
 pub fn bundle_law()
     ensures { BundleLaw }
 {}
@@ -67,8 +67,8 @@ pub fn legal_law()
     ensures { LegalLaw }
 {}
 
-/// Fields tell their beat, and the beats of a legal request and of an answer to it fit the wires and the ids of
-/// their edge.
+/// Fields tell their beat, and the beats of a legal request and of an answer to it fit the wires and the
+/// ids of their edge.
 pub fn wires_law()
     ensures { WiresLaw }
 {}

@@ -71,7 +71,8 @@ pub fn sound_plan_law()
     ensures { SomePlanIsSound }
 {}
 
-/// Each edge of a sound plan has one giver and one taker, and there are at most 1,024 leaves, sources and sinks.
+/// Each edge of a sound plan has one giver and one taker, and there are at most 1,024 leaves, sources and
+/// sinks.
 pub fn ends_law()
     ensures { EndsLaw }
 {}

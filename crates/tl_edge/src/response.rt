@@ -34,11 +34,14 @@ fn payload_of(width: u32, request: &Request, response: &Response, number: u32) -
         spec.data_on_lanes width response.now.size request.now.address number response.now.payload }
 {
     let lanes = Lanes::of(width, response.size, request.address);
-    on_bytes(lanes.first, part(response.payload.as_slice(), width, number))
+    on_bytes(
+        lanes.first,
+        part(response.payload.as_slice(), width, number),
+    )
 }
 
-/// The beat of a response to a request with a number, from 0, on a bus of `width` bytes; the data of a denied one
-/// stays behind.
+/// The beat of a response to a request with a number, from 0, on a bus of `width` bytes; the data of a
+/// denied one stays behind.
 pub fn d_beat(width: u32, request: &Request, response: &Response, number: u32) -> DBeat
     requires width { IsTrue (is_width width) }
     requires request { messages.IsRequest request.now }

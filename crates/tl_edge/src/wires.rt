@@ -5,8 +5,8 @@ ghost use Rattle.tl_edge.specs.Wires as spec;
 use crate::{ABeat, Bundle, DBeat};
 use tl_params::{code_of_ack, code_of_op};
 
-/// What a beat of channel A puts on its wires, in the order of the ports: opcode, param, size, source, address,
-/// mask and data.
+/// What a beat of channel A puts on its wires, in the order of the ports: opcode, param, size, source,
+/// address, mask and data.
 pub fn a_fields(beat: ABeat) -> [u64; 7]
     ensures { result ≡ spec.a_fields beat }
 {
@@ -37,7 +37,8 @@ pub fn a_widths(bundle: Bundle) -> [u32; 7]
     ]
 }
 
-/// What a beat of channel D puts on its wires, in the order of the ports: opcode, size, source, denied and data.
+/// What a beat of channel D puts on its wires, in the order of the ports: opcode, size, source, denied
+/// and data.
 pub fn d_fields(beat: DBeat) -> [u64; 5]
     ensures { result ≡ spec.d_fields beat }
 {

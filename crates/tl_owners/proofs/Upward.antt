@@ -13,7 +13,7 @@ use Rattle.tl_edge.specs.declared.plan.Leaf.{Leaf}
 use Rattle.tl_edge.specs.declared.plan.PlanEdge.{PlanEdge}
 use Rattle.tl_edge.specs.declared.plan.PlanPort.{PlanPort}
 use Rattle.tl_edge.specs.declared.plan.Plan.{Plan}
-use Rattle.tl_edge.specs.Plans.{edge_at, ins_of, outs_of, joined_slaves, width_of, port_edges, given_edges, taken_edges, times, Follows, NoneReturns}
+use Rattle.tl_edge.specs.Plans.{edge_at, ins_of, outs_of, joined_slaves, bus_width, port_edges, given_edges, taken_edges, times, LeadsTo, NoneReturns}
 use Rattle.tl_edge.specs.SoundPlans.{HasShape, pieces_of, Shows, WidthsAgree}
 use Rattle.dip_lists.proofs.Tests.{both}
 use Rattle.dip_lists.proofs.Pairs.{nowhere, within_cases, behind, rest_pairs}
@@ -56,13 +56,13 @@ first_of : (xs : List ℕ) → 1 ≤ length xs → (x : ℕ) × In x xs
 first_of [] h = absurd (omega arith)
 first_of (x ∷ xs) h = (x, inl refl)
 
-module _ (ins outs : List PlanEdge) (a b : PlanEdge) (at_in : Contains ins a) (at_out : Contains outs b) (wide : IsTrue (is_width (width_of b))) where
-  by_pair : AllPairs (λ edge other. width_of edge ≡ width_of other) (ins ++ outs) → IsTrue (is_width (width_of a))
-  by_pair h = let e = across (λ edge other. width_of edge ≡ width_of other) ins outs a b h at_in at_out in subst (λ w. IsTrue (is_width w)) (sym e) wide
+module _ (ins outs : List PlanEdge) (a b : PlanEdge) (at_in : Contains ins a) (at_out : Contains outs b) (wide : IsTrue (is_width (bus_width b))) where
+  by_pair : AllPairs (λ edge other. bus_width edge ≡ bus_width other) (ins ++ outs) → IsTrue (is_width (bus_width a))
+  by_pair h = let e = across (λ edge other. bus_width edge ≡ bus_width other) ins outs a b h at_in at_out in subst (λ w. IsTrue (is_width w)) (sym e) wide
 
-  in_width : (template : Template) → WidthsAgree template (ins ++ outs) → IsTrue (is_width (width_of a))
+  in_width : (template : Template) → WidthsAgree template (ins ++ outs) → IsTrue (is_width (bus_width a))
   in_width Buffer h = by_pair h
-  in_width Width h = All-contains (λ edge. IsTrue (is_width (width_of edge))) (ins ++ outs) a h (Contains-append_left ins outs a at_in)
+  in_width Width h = All-contains (λ edge. IsTrue (is_width (bus_width edge))) (ins ++ outs) a h (Contains-append_left ins outs a at_in)
   in_width Fragmenter h = by_pair h
   in_width Shrinker h = by_pair h
   in_width Xbar h = by_pair h
@@ -71,7 +71,7 @@ module _ (ins outs : List PlanEdge) (a b : PlanEdge) (at_in : Contains ins a) (a
 
 module _ (plan : Plan) (acyclic : NoneReturns plan) (given : All (λ edge. edge < length plan.edges) (given_edges plan))
     (taken_once : (edge : ℕ) → edge < length plan.edges → times edge (taken_edges plan) ≡ 1) (leaves : All (IsSoundLeaf plan) plan.leaves) where
-  follows : (x y place : ℕ) (leaf : Leaf) → slice_get plan.leaves place ≡ Some leaf → In x leaf.ins → In y leaf.outs → Follows plan x y
+  follows : (x y place : ℕ) (leaf : Leaf) → slice_get plan.leaves place ≡ Some leaf → In x leaf.ins → In y leaf.outs → LeadsTo plan x y
   follows x y place leaf is i o = record { leaf = place; through = leaf; is = is; taken = in_contains leaf.ins x i; given = in_contains leaf.outs y o }
 
   taken_by : (x : ℕ) → x < length plan.edges → FromItem (λ (leaf : Leaf). leaf.ins) plan.leaves x ⊎ AtPort plan.sinks x
@@ -93,13 +93,13 @@ module _ (plan : Plan) (acyclic : NoneReturns plan) (given : All (λ edge. edge 
     | inr p ↦ subst (λ n. All P (edge_at plan n).slaves) p.edge (item_has (λ (port : PlanPort). All P (edge_at plan port.edge).slaves) plan.sinks p.place p.port sinks p.is)
   ])
 
-  pub widths_upward : All (λ (port : PlanPort). IsTrue (is_width (width_of (edge_at plan port.edge)))) plan.sinks → (x : ℕ) → x < length plan.edges → IsTrue (is_width (width_of (edge_at plan x)))
-  widths_upward sinks = edge_by_edge plan (λ x. x < length plan.edges → IsTrue (is_width (width_of (edge_at plan x)))) acyclic given (λ x below l. elim (taken_by x l) [
+  pub widths_upward : All (λ (port : PlanPort). IsTrue (is_width (bus_width (edge_at plan port.edge)))) plan.sinks → (x : ℕ) → x < length plan.edges → IsTrue (is_width (bus_width (edge_at plan x)))
+  widths_upward sinks = edge_by_edge plan (λ x. x < length plan.edges → IsTrue (is_width (bus_width (edge_at plan x)))) acyclic given (λ x below l. elim (taken_by x l) [
     | inl f ↦
         let s = item_has (IsSoundLeaf plan) plan.leaves f.place f.item leaves f.is in
         let o = first_of f.item.outs (has_outs f.item.template f.item.ins f.item.outs s.shape) in
         let w = follows x o.0 f.place f.item f.is f.has o.1 in
         in_width (ins_of plan f.item) (outs_of plan f.item) (edge_at plan x) (edge_at plan o.0) (contains_mapped (edge_at plan) f.item.ins x f.has) (contains_mapped (edge_at plan) f.item.outs o.0 o.1)
         (below o.0 w (follower_within plan x o.0 given w)) f.item.template s.carries.widths
-    | inr p ↦ subst (λ n. IsTrue (is_width (width_of (edge_at plan n)))) p.edge (item_has (λ (port : PlanPort). IsTrue (is_width (width_of (edge_at plan port.edge)))) plan.sinks p.place p.port sinks p.is)
+    | inr p ↦ subst (λ n. IsTrue (is_width (bus_width (edge_at plan n)))) p.edge (item_has (λ (port : PlanPort). IsTrue (is_width (bus_width (edge_at plan port.edge)))) plan.sinks p.place p.port sinks p.is)
   ])

@@ -1,12 +1,11 @@
 -- Numbers by blocks of digits.
-use Rattle.std.proofs.Common.{ℕ, zero, suc, ◌≡◌, ◌+◌, ◌*◌, ◌/◌, ◌%◌, ◌^◌, ◌-◌, ◌<◌, ◌≤◌, inl, inr, List, [], ◌∷◌, ◌++◌, length, get_or, take, drop, ap, sym, ◌∙◌, refl, arith}
-use Rattle.std.proofs.Math.Nat.{pow-zero, pow-succ', div-one, div-div-eq-div-mul, zero-div, add-mul-mod_self_left, add-mul-div_left, mod-eq_of_lt, div-eq_of_lt, pow-le-pow_right, mul-div_cancel_left}
+use Rattle.std.proofs.Common.{ℕ, zero, suc, ◌≡◌, ◌+◌, ◌*◌, ◌/◌, ◌%◌, ◌^◌, ◌<◌, ◌≤◌, inl, inr, List, [], ◌∷◌, length, take, drop, ap, sym, ◌∙◌, arith}
+use Rattle.std.proofs.Math.Nat.{pow-zero, pow-succ', div-one, div-div-eq-div-mul, zero-div, add-mul-mod_self_left, add-mul-div_left, mod-eq_of_lt, div-eq_of_lt, pow-le-pow_right}
 use Rattle.std.proofs.lemmas.Bool.{cases_lt}
 use Rattle.std.proofs.lemmas.Nat.{pow-add}
-use Rattle.std.proofs.lemmas.List.{length-take, get_or-take, get_or_past, take-take, take_all, drop-take, drop_all}
-use Rattle.tl_edge.specs.Beats.{of_digits, on_lanes, part}
+use Rattle.std.proofs.lemmas.List.{length-take, get_or-take, get_or_past, take-take, drop-take}
+use Rattle.tl_edge.specs.Beats.{of_digits, part}
 use Rattle.tl_edge.proofs.Digits.{AreDigits, of_digits-lt}
-use Rattle.tl_edge.proofs.LaneByLane.{base_pos}
 use Rattle.tl_pieces.specs.TwoBuses.{gathered}
 
 -- the digits behind a place

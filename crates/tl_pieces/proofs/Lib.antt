@@ -1,4 +1,5 @@
 pub mod Blocks
+pub mod Keeping
 pub mod Narrowing
 pub mod Parts
 pub mod PieceBeats

@@ -1,18 +1,17 @@
 -- Narrow beats cut out of wide ones.
-use Rattle.std.proofs.Common.{ℕ, zero, suc, ◌≡◌, ◌+◌, ◌*◌, ◌/◌, ◌%◌, ◌^◌, ◌-◌, ◌<◌, ◌≤◌, inl, inr, min, max, List, [], ◌∷◌, length, get_or, take, drop, map, Bool, true, false, cond, IsTrue, lit<, ap, sym, ◌∙◌, refl, subst, arith}
+use Rattle.std.proofs.Common.{ℕ, zero, suc, ◌≡◌, ◌+◌, ◌*◌, ◌/◌, ◌%◌, ◌^◌, ◌<◌, ◌≤◌, List, length, take, drop, map, Bool, true, false, cond, lit<, ap, sym, ◌∙◌, arith}
 use Rattle.std.specs.Int.{from_bool}
 use Rattle.std.proofs.Math.Nat.{pow-zero, div-div-eq-div-mul, mul-div_cancel_left, mod-eq_of_lt, zero-div, pow-le-pow_right}
 use Rattle.std.proofs.lemmas.Nat.{pow-add, div-add-mod', mod_below, div_below}
 use Rattle.std.proofs.lemmas.List.{length-map, take_all, get_or-drop}
-use Rattle.tl_params.specs.Arguments.{is_width}
 use Rattle.tl_edge.specs.declared.message.Request.{Request}
 use Rattle.tl_edge.specs.declared.message.Response.{Response}
-use Rattle.tl_edge.specs.Messages.{bytes_of, IsWholeRequest, IsWholeResponse}
-use Rattle.tl_edge.specs.Beats.{of_digits, on_lanes, first_lane, lane_count, data_beats, part, flags_of, a_beat, d_beat}
+use Rattle.tl_edge.specs.Messages.{bytes_of}
+use Rattle.tl_edge.specs.Beats.{of_digits, on_lanes, first_lane, data_beats, part, flags_of, a_beat}
 use Rattle.tl_edge.proofs.Digits.{AreDigits, on_lanes-lt, flag_bits}
 use Rattle.tl_edge.proofs.Active.{bus_of, first_large, first_small, lanes_fit, all_or_none, times-le}
 use Rattle.tl_edge.proofs.LaneByLane.{base_pos, part_digits, digits_from_bytes, map-part, flags_of-length}
-use Rattle.tl_pieces.specs.TwoBuses.{AreBuses, IsAsking, IsTelling, place_of, wide_number, lanes_at, NarrowLaw}
+use Rattle.tl_pieces.specs.TwoBuses.{AreBuses, IsAsking, IsTelling, lane_in_wide, wide_number, lanes_at, NarrowLaw}
 use Rattle.tl_pieces.proofs.Parts.{part-part}
 use Rattle.tl_pieces.proofs.Blocks.{block_digits}
 use Rattle.tl_pieces.proofs.Placing.{AreMultiples, multiples, large, middle, small, kind_of, beats_of_large, beats_of_small, IsInRow, in_row, aligned_wide, IsInOne, in_one, IsAlone, alone}
@@ -41,7 +40,7 @@ cut_moved base count first place n b =
 pub record IsCutOut (base narrow wide size address number : ℕ) (xs : List ℕ) : Type 0 where
   pub wide_beat : wide_number narrow wide address number < data_beats size wide
   pub is : on_lanes base (first_lane narrow size address) (part narrow number xs)
-      ≡ lanes_at base narrow (place_of narrow wide address number) (on_lanes base (first_lane wide size address) (part wide (wide_number narrow wide address number) xs))
+      ≡ lanes_at base narrow (lane_in_wide narrow wide address number) (on_lanes base (first_lane wide size address) (part wide (wide_number narrow wide address number) xs))
 
 -- digits on a bus
 pub record AreOnBus (base narrow wide size address : ℕ) (xs : List ℕ) : Type 0 where
@@ -87,7 +86,7 @@ large_cut base narrow wide size address number xs on times some is below =
     let digits_too : AreDigits base (part wide (number / m.ratio) xs) = part_digits base wide (number / m.ratio) xs on.base_positive on.are_digits in
     let lanes = large_lanes narrow wide size address times on.buses.less some is in
     let wide_is : wide_number narrow wide address number ≡ number / m.ratio = sym (ap (λ (k : ℕ). wide_number narrow wide address k) split) ∙ at.wide_is in
-    let place_is : place_of narrow wide address number ≡ number % m.ratio * narrow = sym (ap (λ (k : ℕ). place_of narrow wide address k) split) ∙ at.place_is in
+    let place_is : lane_in_wide narrow wide address number ≡ number % m.ratio * narrow = sym (ap (λ (k : ℕ). lane_in_wide narrow wide address k) split) ∙ at.place_is in
     record {
       wide_beat = omega (arith, wide_is, few, wide_beats);
       is =
@@ -96,9 +95,9 @@ large_cut base narrow wide size address number xs on times some is below =
           ∙ sym (ap (of_digits base) (ap (λ (w : ℕ). part narrow (number % m.ratio) (part w (number / m.ratio) xs)) m.is ∙ part-part narrow m.ratio (number / m.ratio) (number % m.ratio) xs inside))
           ∙ sym (block_digits base narrow (number % m.ratio) (part wide (number / m.ratio) xs) on.base_positive digits_too (drop_are_digits base (number % m.ratio * narrow) (part wide (number / m.ratio) xs) digits_too))
           ∙ sym (ap (λ (p : ℕ). of_digits base (part wide (number / m.ratio) xs) / base ^ p % base ^ narrow) place_is)
-          ∙ sym (ap (λ (k : ℕ). lanes_at base narrow (place_of narrow wide address number) k) (from_lane_0 base (part wide (number / m.ratio) xs)))
-          ∙ sym (ap (λ (f : ℕ). lanes_at base narrow (place_of narrow wide address number) (on_lanes base f (part wide (number / m.ratio) xs))) lanes.1)
-          ∙ sym (ap (λ (k : ℕ). lanes_at base narrow (place_of narrow wide address number) (on_lanes base (first_lane wide size address) (part wide k xs))) wide_is);
+          ∙ sym (ap (λ (k : ℕ). lanes_at base narrow (lane_in_wide narrow wide address number) k) (from_lane_0 base (part wide (number / m.ratio) xs)))
+          ∙ sym (ap (λ (f : ℕ). lanes_at base narrow (lane_in_wide narrow wide address number) (on_lanes base f (part wide (number / m.ratio) xs))) lanes.1)
+          ∙ sym (ap (λ (k : ℕ). lanes_at base narrow (lane_in_wide narrow wide address number) (on_lanes base (first_lane wide size address) (part wide k xs))) wide_is);
     }
 
 middle_cut : (base narrow wide size address number : ℕ) (xs : List ℕ) (on : AreOnBus base narrow wide size address xs) (times more : ℕ) → 0 < times → 0 < more → bytes_of size ≡ narrow * times → wide ≡ bytes_of size * more
@@ -118,9 +117,9 @@ middle_cut base narrow wide size address number xs on times more some any fits i
           ∙ sym (block_digits base narrow number xs on.base_positive on.are_digits (drop_are_digits base (number * narrow) xs on.are_digits))
           ∙ sym (cut_moved base narrow (address % wide) (number * narrow) (of_digits base xs) on.base_positive)
           ∙ sym (ap (λ (p : ℕ). lanes_at base narrow p (on_lanes base (address % wide) xs)) at.place_is)
-          ∙ sym (ap (λ (ys : List ℕ). lanes_at base narrow (place_of narrow wide address number) (on_lanes base (address % wide) ys)) whole)
-          ∙ sym (ap (λ (f : ℕ). lanes_at base narrow (place_of narrow wide address number) (on_lanes base f (part wide 0 xs))) lane_wide)
-          ∙ sym (ap (λ (k : ℕ). lanes_at base narrow (place_of narrow wide address number) (on_lanes base (first_lane wide size address) (part wide k xs))) at.wide_is);
+          ∙ sym (ap (λ (ys : List ℕ). lanes_at base narrow (lane_in_wide narrow wide address number) (on_lanes base (address % wide) ys)) whole)
+          ∙ sym (ap (λ (f : ℕ). lanes_at base narrow (lane_in_wide narrow wide address number) (on_lanes base f (part wide 0 xs))) lane_wide)
+          ∙ sym (ap (λ (k : ℕ). lanes_at base narrow (lane_in_wide narrow wide address number) (on_lanes base (first_lane wide size address) (part wide k xs))) at.wide_is);
     }
 
 -- lanes that fit a bus are cut out whole
@@ -159,9 +158,9 @@ small_cut base narrow wide size address number xs on under below =
           ∙ sym (cut_whole base narrow (address % narrow) (address % wide / narrow * narrow) xs on.base_positive on.are_digits inside)
           ∙ ap (λ (f : ℕ). lanes_at base narrow (address % wide / narrow * narrow) (on_lanes base f xs)) at.lane
           ∙ sym (ap (λ (p : ℕ). lanes_at base narrow p (on_lanes base (address % wide) xs)) at.place_is)
-          ∙ sym (ap (λ (ys : List ℕ). lanes_at base narrow (place_of narrow wide address number) (on_lanes base (address % wide) ys)) whole)
-          ∙ sym (ap (λ (f : ℕ). lanes_at base narrow (place_of narrow wide address number) (on_lanes base f (part wide 0 xs))) lane_wide)
-          ∙ sym (ap (λ (k : ℕ). lanes_at base narrow (place_of narrow wide address number) (on_lanes base (first_lane wide size address) (part wide k xs))) at.wide_is);
+          ∙ sym (ap (λ (ys : List ℕ). lanes_at base narrow (lane_in_wide narrow wide address number) (on_lanes base (address % wide) ys)) whole)
+          ∙ sym (ap (λ (f : ℕ). lanes_at base narrow (lane_in_wide narrow wide address number) (on_lanes base f (part wide 0 xs))) lane_wide)
+          ∙ sym (ap (λ (k : ℕ). lanes_at base narrow (lane_in_wide narrow wide address number) (on_lanes base (first_lane wide size address) (part wide k xs))) at.wide_is);
     }
 
 pub cut_out : (base narrow wide size address number : ℕ) (xs : List ℕ) → AreOnBus base narrow wide size address xs → number < data_beats size narrow → IsCutOut base narrow wide size address number xs
@@ -201,11 +200,11 @@ answer_on_bus narrow wide request response tells = record {
 }
 
 mask_cut : (narrow wide : ℕ) (request : Request) (number : ℕ) → IsAsking narrow wide request → number < data_beats request.size narrow
-    → (a_beat narrow request number).mask ≡ lanes_at 2 narrow (place_of narrow wide request.address number) (a_beat wide request (wide_number narrow wide request.address number)).mask
+    → (a_beat narrow request number).mask ≡ lanes_at 2 narrow (lane_in_wide narrow wide request.address number) (a_beat wide request (wide_number narrow wide request.address number)).mask
 mask_cut narrow wide request number asks below =
     sym (ap (on_lanes 2 (first_lane narrow request.size request.address)) (map-part narrow number (flags_of request)))
     ∙ (cut_out 2 narrow wide request.size request.address number (map from_bool (flags_of request)) (flags_on_bus narrow wide request asks) below).is
-    ∙ ap (λ (xs : List ℕ). lanes_at 2 narrow (place_of narrow wide request.address number) (on_lanes 2 (first_lane wide request.size request.address) xs)) (map-part wide (wide_number narrow wide request.address number) (flags_of request))
+    ∙ ap (λ (xs : List ℕ). lanes_at 2 narrow (lane_in_wide narrow wide request.address number) (on_lanes 2 (first_lane wide request.size request.address) xs)) (map-part wide (wide_number narrow wide request.address number) (flags_of request))
 
 denied_cut : (denied : Bool) (base narrow place n m : ℕ) → 0 < base → n ≡ lanes_at base narrow place m → cond denied 0 n ≡ lanes_at base narrow place (cond denied 0 m)
 denied_cut false base narrow place n m b e = e
@@ -217,6 +216,6 @@ narrow_law = record {
   mask = mask_cut;
   payload = λ narrow wide request number asks below. (cut_out 256 narrow wide request.size request.address number request.payload (data_on_bus narrow wide request asks) below).is;
   back = λ narrow wide request response number tells below.
-      denied_cut response.denied 256 narrow (place_of narrow wide request.address number) _ _ (lit< tt)
+      denied_cut response.denied 256 narrow (lane_in_wide narrow wide request.address number) _ _ (lit< tt)
       (cut_out 256 narrow wide response.size request.address number response.payload (answer_on_bus narrow wide request response tells) below).is;
 }

@@ -1,7 +1,7 @@
 -- Parts of lists, and the sizes of pieces.
-use Rattle.std.proofs.Common.{ℕ, zero, suc, ◌≡◌, ◌+◌, ◌*◌, ◌/◌, ◌%◌, ◌^◌, ◌-◌, ◌<◌, ◌≤◌, inl, inr, List, [], ◌∷◌, ◌++◌, length, take, drop, replicate, Bool, true, false, ◌&&◌, cond, nat_lt, lit<, ap, sym, ◌∙◌, refl, arith}
+use Rattle.std.proofs.Common.{ℕ, ◌≡◌, ◌+◌, ◌*◌, ◌/◌, ◌%◌, ◌^◌, ◌-◌, ◌<◌, ◌≤◌, List, [], length, take, drop, true, nat_lt, ap, sym, ◌∙◌, arith}
 use Rattle.std.specs.Int.{IsPowerOfTwo}
-use Rattle.std.proofs.Math.Nat.{mul-div_cancel_left, mod-mod_of_dvd, dvd-mul_right, add-mul-mod_self_right, mod-eq_of_lt, mul-le-mul_right, mul-mod_right}
+use Rattle.std.proofs.Math.Nat.{mul-div_cancel_left, mod-mod_of_dvd, dvd-mul_right, add-mul-mod_self_right, mod-eq_of_lt, mul-mod_right}
 use Rattle.std.proofs.lemmas.Bool.{and_parts, ltb-true}
 use Rattle.std.proofs.lemmas.Nat.{pow_pos, pow-add, row_fits}
 use Rattle.std.proofs.lemmas.List.{take-take, drop-take, drop-drop, length-take, length-drop, nil_from_length}

@@ -1,46 +1,46 @@
 -- The pieces of a request.
-use Rattle.std.proofs.Common.{ℕ, zero, suc, ◌≡◌, ◌+◌, ◌*◌, ◌/◌, ◌%◌, ◌^◌, ◌-◌, ◌<◌, ◌≤◌, inl, inr, List, [], ◌∷◌, ◌++◌, append-nil, length, get_or, take, drop, map, Bool, true, false, cond, All, AllPairs, ap, sym, ◌∙◌, refl, subst, arith}
+use Rattle.std.proofs.Common.{ℕ, ◌≡◌, ◌+◌, ◌*◌, ◌/◌, ◌%◌, ◌-◌, ◌<◌, ◌≤◌, inl, inr, List, [], ◌∷◌, ◌++◌, append-nil, length, get_or, drop, map, Bool, true, false, cond, All, AllPairs, ap, sym, ◌∙◌, refl, subst, arith}
 use Rattle.std.specs.Int.{IsPowerOfTwo}
 use Rattle.std.specs.Prelude.{Any}
 use Rattle.std.specs.List.{range_with_len, flat_map}
 use Rattle.std.proofs.lemmas.Bool.{cases_Bool, cond-true, cond-false}
 use Rattle.std.proofs.lemmas.Nat.{div-add-mod', mod_below, div_below, row_fits}
 use Rattle.std.proofs.lemmas.List.{length-take, length-drop}
-use Rattle.std.proofs.lemmas.List.Elements.{All-cons, All-nil, All-map, All-take, All-drop, All-same}
+use Rattle.std.proofs.lemmas.List.Elements.{All-cons, All-nil, All-take, All-drop}
 use Rattle.std.proofs.lemmas.List.Kept.{AllPairs-cons}
-use Rattle.std.proofs.lemmas.List.FromFn.{length-map-range_with_len, get_or-map-range_with_len, length-range_with_len, get_or-range_with_len}
+use Rattle.std.proofs.lemmas.List.FromFn.{length-map-range_with_len, get_or-map-range_with_len}
 use Rattle.dip_sets.proofs.Lists.{pairs_none}
 use Rattle.tl_edge.specs.declared.message.Request.{Request}
-use Rattle.tl_edge.specs.Messages.{bytes_of, has_data, has_flags, IsRequest, IsWholeRequest, AreBytes}
+use Rattle.tl_edge.specs.Messages.{bytes_of, has_data, has_flags, IsWholeRequest}
 use Rattle.tl_edge.specs.Bundles.{log_of}
 use Rattle.tl_edge.specs.Beats.{part}
 use Rattle.tl_edge.proofs.Fitting.{all_made}
 use Rattle.tl_edge.proofs.LaneByLane.{get_or-part}
 use Rattle.tl_edge.proofs.Active.{all_or_none}
 use Rattle.tl_edge.proofs.Reading.{flat_map-map, parts_joined}
-use Rattle.tl_pieces.specs.Cutting.{is_cut, piece, piece_count, cut_at}
-use Rattle.tl_pieces.specs.CutLaws.{IsCuttable, AsksSame, HasByte, EndsBefore, CutLaw}
-use Rattle.tl_pieces.proofs.Parts.{part-nil, length-part_within, bytes_of-log, most_pos, larger_than_most, IsWholePieces, whole_pieces, piece_within, aligned_piece}
+use Rattle.tl_pieces.specs.Cutting.{is_cut, piece_at, piece_count, cut_at}
+use Rattle.tl_pieces.specs.CutLaws.{IsCuttable, AsksSame, HasByte, LiesBefore, CutLaw}
+use Rattle.tl_pieces.proofs.Parts.{length-part_within, bytes_of-log, most_pos, IsWholePieces, whole_pieces, piece_within, aligned_piece}
 
 uncut : (most : ℕ) (request : Request) → is_cut most request ≡ false → cut_at most request ≡ request ∷ []
-uncut most request h = cond-false (is_cut most request) (map (piece most request) (range_with_len 0 (piece_count most request))) (request ∷ []) h
+uncut most request h = cond-false (is_cut most request) (map (piece_at most request) (range_with_len 0 (piece_count most request))) (request ∷ []) h
 
-pub are_pieces : (most : ℕ) (request : Request) → is_cut most request ≡ true → cut_at most request ≡ map (piece most request) (range_with_len 0 (piece_count most request))
-are_pieces most request h = cond-true (is_cut most request) (map (piece most request) (range_with_len 0 (piece_count most request))) (request ∷ []) h
+pub are_pieces : (most : ℕ) (request : Request) → is_cut most request ≡ true → cut_at most request ≡ map (piece_at most request) (range_with_len 0 (piece_count most request))
+are_pieces most request h = cond-true (is_cut most request) (map (piece_at most request) (range_with_len 0 (piece_count most request))) (request ∷ []) h
 
 -- what holds of each piece, or of the request where it isn't cut
-all_pieces : (P : Request → Type 0) (most : ℕ) (request : Request) → (is_cut most request ≡ false → P request) → (is_cut most request ≡ true → (number : ℕ) → number < piece_count most request → P (piece most request number))
+all_pieces : (P : Request → Type 0) (most : ℕ) (request : Request) → (is_cut most request ≡ false → P request) → (is_cut most request ≡ true → (number : ℕ) → number < piece_count most request → P (piece_at most request number))
     → All P (cut_at most request)
 all_pieces P most request one each =
     elim (cases_Bool (is_cut most request)) [
       | inr no_cut ↦ subst (All P) (sym (uncut most request no_cut)) (All-cons P request [] (one no_cut) (All-nil P))
       | inl cuts ↦ subst (All P) (sym (are_pieces most request cuts))
-          (all_made P (piece most request) (piece_count most request) (each cuts))
+          (all_made P (piece_at most request) (piece_count most request) (each cuts))
     ]
 
 number_law : (most : ℕ) (request : Request) → IsCuttable most request → is_cut most request ≡ true → length (cut_at most request) * most ≡ bytes_of request.size
 number_law most request is h =
-    let count : length (cut_at most request) ≡ piece_count most request = ap length (are_pieces most request h) ∙ length-map-range_with_len (piece most request) 0 (piece_count most request) in
+    let count : length (cut_at most request) ≡ piece_count most request = ap length (are_pieces most request h) ∙ length-map-range_with_len (piece_at most request) 0 (piece_count most request) in
     ap (λ (n : ℕ). n * most) count ∙ omega (arith, (whole_pieces most request is.size h).times)
 
 -- how much of a list a piece has, where the message has all of it or none
@@ -48,7 +48,7 @@ piece_length : {A : Type 0} (kind : Bool) (most total number : ℕ) (xs : List A
 piece_length true most total number xs e fits = length-part_within most number xs (omega (arith, e, fits))
 piece_length false most total number xs e fits = omega (arith, e, length-take most (drop (number * most) xs), length-drop (number * most) xs)
 
-pub whole_piece : (most : ℕ) (request : Request) (number : ℕ) → IsCuttable most request → is_cut most request ≡ true → number < piece_count most request → IsWholeRequest (piece most request number)
+pub whole_piece : (most : ℕ) (request : Request) (number : ℕ) → IsCuttable most request → is_cut most request ≡ true → number < piece_count most request → IsWholeRequest (piece_at most request number)
 whole_piece most request number is h below =
     let pieces : IsWholePieces most request = whole_pieces most request is.size h in
     let within : number * most + most ≤ bytes_of request.size = piece_within most request number pieces below in
@@ -67,7 +67,7 @@ whole_piece most request number is h below =
 -- ---- the byte at an offset
 
 -- the byte that a piece has at an offset within it
-byte_in_piece : (most : ℕ) (request : Request) (number offset : ℕ) → IsPowerOfTwo most → number * most ≤ offset → offset < number * most + most → HasByte request offset (piece most request number)
+byte_in_piece : (most : ℕ) (request : Request) (number offset : ℕ) → IsPowerOfTwo most → number * most ≤ offset → offset < number * most + most → HasByte request offset (piece_at most request number)
 byte_in_piece most request number offset size from to =
     let inner : request.address + offset - (request.address + number * most) ≡ offset - number * most = omega (arith, from) in
     let short : offset - number * most < most = omega (arith, from, to) in
@@ -92,11 +92,15 @@ has_byte most request offset is below =
           let number : ℕ = offset / most in
           let within : offset / most < piece_count most request = div_below offset most (piece_count most request) some (omega (arith, below, pieces.times)) in
           let split : offset / most * most + offset % most ≡ offset = div-add-mod' offset most in
-          let item : piece most request (offset / most) ≡ get_or (map (piece most request) (range_with_len 0 (piece_count most request))) (offset / most) (piece most request (offset / most)) =
-          sym (get_or-map-range_with_len (piece most request) 0 (piece_count most request) (offset / most) (offset / most) (piece most request (offset / most)) within (omega arith)) in
-          subst (Any (HasByte request offset)) (sym (are_pieces most request cuts))
-          (offset / most, piece most request (offset / most), omega (arith, within, length-map-range_with_len (piece most request) 0 (piece_count most request)), sym item,
-            byte_in_piece most request (offset / most) offset is.size (omega (arith, split)) (omega (arith, split, mod_below offset most some)))
+          let item : piece_at most request (offset / most) ≡ get_or (map (piece_at most request) (range_with_len 0 (piece_count most request))) (offset / most) (piece_at most request (offset / most)) =
+          sym (get_or-map-range_with_len (piece_at most request) 0 (piece_count most request) (offset / most) (offset / most) (piece_at most request (offset / most)) within (omega arith)) in
+          subst (Any (HasByte request offset)) (sym (are_pieces most request cuts)) (
+            offset / most,
+            piece_at most request (offset / most),
+            omega (arith, within, length-map-range_with_len (piece_at most request) 0 (piece_count most request)),
+            sym item,
+            byte_in_piece most request (offset / most) offset is.size (omega (arith, split)) (omega (arith, split, mod_below offset most some)),
+          )
     ]
 
 -- ---- pieces stand apart
@@ -104,27 +108,27 @@ has_byte most request offset is below =
 one_alone : (R : Request → Request → Type 0) (request : Request) → AllPairs R (request ∷ [])
 one_alone R request = AllPairs-cons R request [] (All-nil (R request)) (pairs_none R)
 
-ends_before : (most : ℕ) (request : Request) (one other : ℕ) → IsPowerOfTwo most → one < other → EndsBefore (piece most request one) (piece most request other)
+ends_before : (most : ℕ) (request : Request) (one other : ℕ) → IsPowerOfTwo most → one < other → LiesBefore (piece_at most request one) (piece_at most request other)
 ends_before most request one other size less = omega (arith, bytes_of-log most size, row_fits one most other most less (omega arith))
 
-apart : (most : ℕ) (request : Request) → IsCuttable most request → AllPairs EndsBefore (cut_at most request)
+apart : (most : ℕ) (request : Request) → IsCuttable most request → AllPairs LiesBefore (cut_at most request)
 apart most request is =
     elim (cases_Bool (is_cut most request)) [
-      | inr no_cut ↦ subst (AllPairs EndsBefore) (sym (uncut most request no_cut)) (one_alone EndsBefore request)
-      | inl cuts ↦ subst (AllPairs EndsBefore) (sym (are_pieces most request cuts)) (λ i j d less below.
-          let within : j < piece_count most request = omega (arith, below, length-map-range_with_len (piece most request) 0 (piece_count most request)) in
-          let first : get_or (map (piece most request) (range_with_len 0 (piece_count most request))) i d ≡ piece most request i =
-          get_or-map-range_with_len (piece most request) 0 (piece_count most request) i i d (omega (arith, less, within)) (omega arith) in
-          let second : get_or (map (piece most request) (range_with_len 0 (piece_count most request))) j d ≡ piece most request j =
-          get_or-map-range_with_len (piece most request) 0 (piece_count most request) j j d within (omega arith) in
-          subst (λ (r : Request). EndsBefore r (get_or (map (piece most request) (range_with_len 0 (piece_count most request))) j d)) (sym first)
-          (subst (λ (r : Request). EndsBefore (piece most request i) r) (sym second) (ends_before most request i j is.size less)))
+      | inr no_cut ↦ subst (AllPairs LiesBefore) (sym (uncut most request no_cut)) (one_alone LiesBefore request)
+      | inl cuts ↦ subst (AllPairs LiesBefore) (sym (are_pieces most request cuts)) (λ i j d less below.
+          let within : j < piece_count most request = omega (arith, below, length-map-range_with_len (piece_at most request) 0 (piece_count most request)) in
+          let first : get_or (map (piece_at most request) (range_with_len 0 (piece_count most request))) i d ≡ piece_at most request i =
+          get_or-map-range_with_len (piece_at most request) 0 (piece_count most request) i i d (omega (arith, less, within)) (omega arith) in
+          let second : get_or (map (piece_at most request) (range_with_len 0 (piece_count most request))) j d ≡ piece_at most request j =
+          get_or-map-range_with_len (piece_at most request) 0 (piece_count most request) j j d within (omega arith) in
+          subst (λ (r : Request). LiesBefore r (get_or (map (piece_at most request) (range_with_len 0 (piece_count most request))) j d)) (sym first)
+          (subst (λ (r : Request). LiesBefore (piece_at most request i) r) (sym second) (ends_before most request i j is.size less)))
     ]
 
 -- ---- pieces joined
 
 joined : {A : Type 0} (field : Request → List A) (most : ℕ) (request : Request) → IsPowerOfTwo most → length (field request) ≤ bytes_of request.size
-    → ((number : ℕ) → field (piece most request number) ≡ part most number (field request)) → flat_map field (cut_at most request) ≡ field request
+    → ((number : ℕ) → field (piece_at most request number) ≡ part most number (field request)) → flat_map field (cut_at most request) ≡ field request
 joined {A = A} field most request size few parts =
     elim (cases_Bool (is_cut most request)) [
       | inr no_cut ↦ ap (flat_map field) (uncut most request no_cut) ∙ append-nil (field request)
@@ -132,15 +136,15 @@ joined {A = A} field most request size few parts =
           let enough : length (field request) ≤ (0 + piece_count most request) * most = omega (arith, few, (whole_pieces most request size cuts).times) in
           let start : 0 * most ≡ 0 = omega arith in
           ap (flat_map field) (are_pieces most request cuts)
-          ∙ flat_map-map (piece most request) field (range_with_len 0 (piece_count most request))
+          ∙ flat_map-map (piece_at most request) field (range_with_len 0 (piece_count most request))
           ∙ same_parts (range_with_len 0 (piece_count most request))
           ∙ parts_joined most (piece_count most request) 0 (field request) enough
           ∙ ap (λ (n : ℕ). drop n (field request)) start
     ]
   where
-    same_parts : (numbers : List ℕ) → flat_map (λ n. field (piece most request n)) numbers ≡ flat_map (λ n. part most n (field request)) numbers
+    same_parts : (numbers : List ℕ) → flat_map (λ n. field (piece_at most request n)) numbers ≡ flat_map (λ n. part most n (field request)) numbers
     same_parts [] = refl
-    same_parts (n ∷ numbers) = ap (λ (xs : List A). xs ++ flat_map (λ n. field (piece most request n)) numbers) (parts n) ∙ ap (λ (xs : List A). part most n (field request) ++ xs) (same_parts numbers)
+    same_parts (n ∷ numbers) = ap (λ (xs : List A). xs ++ flat_map (λ n. field (piece_at most request n)) numbers) (parts n) ∙ ap (λ (xs : List A). part most n (field request) ++ xs) (same_parts numbers)
 
 pub cut_law : CutLaw
 cut_law = record {

@@ -1,13 +1,12 @@
 -- Where narrow beats lie in wide ones.
-use Rattle.std.proofs.Common.{ℕ, zero, suc, ◌≡◌, ◌+◌, ◌*◌, ◌/◌, ◌%◌, ◌^◌, ◌-◌, ◌<◌, ◌≤◌, ◌⊎◌, inl, inr, min, max, IsTrue, lit<, ap, sym, ◌∙◌, refl, arith}
-use Rattle.std.proofs.Math.Nat.{mul-div_cancel_left, mod-mod_of_dvd, dvd-mul_right, mod-add-mod, mod-eq_of_lt, div-eq_of_lt, pow-le-pow_right}
+use Rattle.std.proofs.Common.{ℕ, zero, suc, ◌≡◌, ◌+◌, ◌*◌, ◌/◌, ◌%◌, ◌^◌, ◌-◌, ◌<◌, ◌≤◌, inl, inr, ap, sym, ◌∙◌, arith}
+use Rattle.std.proofs.Math.Nat.{mul-div_cancel_left, mod-mod_of_dvd, dvd-mul_right, mod-add-mod, mod-eq_of_lt, div-eq_of_lt}
 use Rattle.std.proofs.lemmas.Bool.{cases_lt}
 use Rattle.std.proofs.lemmas.Nat.{pow_pos, pow_below, pow-add, row_fits, div-add-mod', mod_below, div-mul-add, mod-mul-add}
-use Rattle.tl_params.specs.Arguments.{is_width}
 use Rattle.tl_edge.specs.Messages.{bytes_of}
-use Rattle.tl_edge.specs.Beats.{data_beats, first_lane}
-use Rattle.tl_edge.proofs.Active.{IsBus, bus_of, bus_pos, compared, larger, smaller, small_fits, mod-mul_first, times-le}
-use Rattle.tl_pieces.specs.TwoBuses.{AreBuses, place_of, wide_number, first_narrow, narrow_count}
+use Rattle.tl_edge.specs.Beats.{data_beats}
+use Rattle.tl_edge.proofs.Active.{IsBus, bus_of, bus_pos, compared, larger, smaller, small_fits, mod-mul_first}
+use Rattle.tl_pieces.specs.TwoBuses.{AreBuses, lane_in_wide, wide_number}
 
 -- ---- the two widths
 
@@ -73,7 +72,7 @@ beats_of_small width size below = let count : bytes_of size / width ≡ 0 = div-
 pub record IsInRow (narrow wide address row column ratio : ℕ) : Type 0 where
   pub bytes : address + (row * ratio + column) * narrow ≡ (address / wide + row) * wide + column * narrow
   pub wide_is : wide_number narrow wide address (row * ratio + column) ≡ row
-  pub place_is : place_of narrow wide address (row * ratio + column) ≡ column * narrow
+  pub place_is : lane_in_wide narrow wide address (row * ratio + column) ≡ column * narrow
 
 pub column_fits : (column ratio narrow wide : ℕ) → column < ratio → wide ≡ ratio * narrow → 0 < narrow → column * narrow < wide
 column_fits column ratio narrow wide inside is positive = omega (arith, is, positive, row_fits column narrow ratio narrow inside (omega arith))
@@ -115,7 +114,7 @@ aligned_wide wide size times address positive is aligned = multiple_mod wide tim
 
 pub record IsInOne (narrow wide size address number : ℕ) : Type 0 where
   pub wide_is : wide_number narrow wide address number ≡ 0
-  pub place_is : place_of narrow wide address number ≡ address % wide + number * narrow
+  pub place_is : lane_in_wide narrow wide address number ≡ address % wide + number * narrow
   pub end : address % wide + bytes_of size ≤ wide
 
 pub in_one : (narrow wide size address number times more : ℕ) → 0 < narrow → 0 < more → bytes_of size ≡ narrow * times → wide ≡ bytes_of size * more → address % bytes_of size ≡ 0 → number < times
@@ -142,7 +141,7 @@ in_one narrow wide size address number times more positive any fits is aligned b
 
 pub record IsAlone (narrow wide address number : ℕ) : Type 0 where
   pub wide_is : wide_number narrow wide address number ≡ 0
-  pub place_is : place_of narrow wide address number ≡ address % wide / narrow * narrow
+  pub place_is : lane_in_wide narrow wide address number ≡ address % wide / narrow * narrow
   pub lane : address % wide / narrow * narrow + address % narrow ≡ address % wide
 
 pub alone : (narrow wide address number ratio : ℕ) → 0 < narrow → 0 < ratio → wide ≡ ratio * narrow → number ≡ 0 → IsAlone narrow wide address number

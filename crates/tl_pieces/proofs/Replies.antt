@@ -1,25 +1,23 @@
 -- The reply to a request from the answers to its pieces.
-use Rattle.std.proofs.Common.{ℕ, zero, suc, ◌≡◌, ◌+◌, ◌*◌, ◌/◌, ◌%◌, ◌^◌, ◌-◌, ◌<◌, ◌≤◌, inl, inr, List, [], ◌∷◌, ◌++◌, append-nil, length, get_or, take, drop, map, replicate, Bool, true, false, ◌||◌, cond, All, IsTrue, Some, slice_get, lit<, ap, sym, ◌∙◌, refl, subst, arith}
-use Rattle.std.specs.Int.{IsPowerOfTwo}
+use Rattle.std.proofs.Common.{ℕ, zero, suc, ◌≡◌, ◌+◌, ◌*◌, ◌<◌, inl, inr, List, [], ◌∷◌, ◌++◌, append-nil, length, get_or, take, drop, map, replicate, Bool, true, false, ◌||◌, cond, All, Some, slice_get, lit<, ap, sym, ◌∙◌, refl, subst, arith}
 use Rattle.std.specs.Prelude.{Any}
-use Rattle.std.specs.List.{range_with_len, flat_map, list_any, AllZip}
+use Rattle.std.specs.List.{range_with_len, AllZip}
 use Rattle.std.proofs.lemmas.Bool.{cases_Bool, cond-true, cond-false, or_left, or_right, or_from}
 use Rattle.std.proofs.lemmas.List.{length-append, length-replicate, nil_from_length, take_at, drop_at, drop-drop}
 use Rattle.std.proofs.lemmas.List.Elements.{All-head, All-tail, All-cons, All-nil, All-append, All-replicate}
 use Rattle.std.proofs.lemmas.Option.{same_Some}
-use Rattle.tl_params.specs.Arguments.{is_width}
 use Rattle.tl_params.specs.declared.ops.Op.{Op}
 use Rattle.tl_params.specs.declared.ops.Ack.{Ack}
 use Rattle.tl_edge.specs.declared.message.Request.{Request}
 use Rattle.tl_edge.specs.declared.message.Response.{Response}
 use Rattle.tl_edge.specs.Bundles.{log_of}
-use Rattle.tl_edge.specs.Messages.{bytes_of, ack_of, brings_data, IsWholeRequest, IsWholeResponse, AreBytes}
-use Rattle.tl_edge.specs.Beats.{first_lane, on_bytes, part, data_beats, response_beats, d_beat}
+use Rattle.tl_edge.specs.Messages.{bytes_of, ack_of, brings_data, IsWholeResponse, AreBytes}
+use Rattle.tl_edge.specs.Beats.{first_lane, on_bytes, part, data_beats, d_beat}
 use Rattle.tl_edge.specs.Joined.{told}
 use Rattle.tl_edge.proofs.Ways.{item_has}
 use Rattle.tl_edge.proofs.Cuts.{made_item}
-use Rattle.tl_pieces.specs.Cutting.{is_cut, piece, piece_count, cut_at, any_denied, joined_data, reply_data, reply_to}
-use Rattle.tl_pieces.specs.CutLaws.{IsCuttable, AsksSame, IsCutOn, answer_beats, AreAnswers, ReplyLaw}
+use Rattle.tl_pieces.specs.Cutting.{is_cut, piece_at, piece_count, cut_at, any_denied, joined_data, reply_data, reply_to}
+use Rattle.tl_pieces.specs.CutLaws.{IsCuttable, IsCutOn, answer_beats, AreAnswers, ReplyLaw}
 use Rattle.tl_pieces.proofs.Parts.{part-nil}
 use Rattle.tl_pieces.proofs.Pieces.{are_pieces, cut_law}
 use Rattle.tl_pieces.proofs.PieceBeats.{first_zero, same_part, whole_beats}
@@ -184,12 +182,12 @@ zip_at R (x ∷ xs) (z ∷ ys) zero y zip is = (x, refl, subst (R x) (same_Some 
 zip_at R (x ∷ xs) (z ∷ ys) (suc k) y zip is = zip_at R xs ys k y zip.1 is
 
 answer_is : (width most : ℕ) (request : Request) (answers : List Response) (answer : Response) (number : ℕ) → IsCutOn width most request → AreAnswers most request answers → slice_get answers number ≡ Some answer
-    → IsWholeResponse (piece most request number) answer
+    → IsWholeResponse (piece_at most request number) answer
 answer_is width most request answers answer number on zip is =
     let at = zip_at IsWholeResponse (cut_at most request) answers number answer zip is in
-    let listed : slice_get (map (piece most request) (range_with_len 0 (piece_count most request))) number ≡ Some at.0 =
+    let listed : slice_get (map (piece_at most request) (range_with_len 0 (piece_count most request))) number ≡ Some at.0 =
     sym (ap (λ (pieces : List Request). slice_get pieces number) (are_pieces most request on.cut)) ∙ at.1 in
-    subst (λ (p : Request). IsWholeResponse p answer) (made_item (piece most request) (piece_count most request) number at.0 listed).1 at.2
+    subst (λ (p : Request). IsWholeResponse p answer) (made_item (piece_at most request) (piece_count most request) number at.0 listed).1 at.2
 
 -- the data of a reply that isn't denied are the answers'
 reply_payload : (brings denied : Bool) (n : ℕ) (xs : List ℕ) → denied ≡ false → brings ≡ true → cond brings (cond denied (replicate n 0) xs) [] ≡ xs
@@ -199,9 +197,9 @@ reply_payload false denied n xs d b = absurd cc
 
 back_payload : (width most : ℕ) (request : Request) (answers : List Response) (answer : Response) (number beat : ℕ) → IsCutOn width most request → AreAnswers most request answers
     → All (λ (r : Response). r.denied ≡ false) answers → slice_get answers number ≡ Some answer → beat < answer_beats width most request
-    → (d_beat width (piece most request number).address answer beat).payload ≡ (d_beat width request.address (reply_to request answers) (number * answer_beats width most request + beat)).payload
+    → (d_beat width (piece_at most request number).address answer beat).payload ≡ (d_beat width request.address (reply_to request answers) (number * answer_beats width most request + beat)).payload
 back_payload width most request answers answer number beat on zip granted is h =
-    cond-false answer.denied 0 (on_bytes (first_lane width answer.size (piece most request number).address) (part width beat answer.payload)) own
+    cond-false answer.denied 0 (on_bytes (first_lane width answer.size (piece_at most request number).address) (part width beat answer.payload)) own
     ∙ ap (λ (first : ℕ). on_bytes first (part width beat answer.payload)) lanes
     ∙ ap (λ (bytes : List ℕ). on_bytes (first_lane width request.size request.address) bytes) parts
     ∙ sym (cond-false (any_denied answers) 0 (on_bytes (first_lane width request.size request.address) (part width (number * answer_beats width most request + beat) (reply_to request answers).payload)) (none_denied answers granted))
@@ -209,11 +207,11 @@ back_payload width most request answers answer number beat on zip granted is h =
     own : answer.denied ≡ false
     own = item_has (λ (r : Response). r.denied ≡ false) answers number answer granted is
 
-    to_piece : IsWholeResponse (piece most request number) answer
+    to_piece : IsWholeResponse (piece_at most request number) answer
     to_piece = answer_is width most request answers answer number on zip is
 
-    lanes : first_lane width answer.size (piece most request number).address ≡ first_lane width request.size request.address
-    lanes = ap (λ (size : ℕ). first_lane width size (piece most request number).address) to_piece.answers.size ∙ first_zero width most request number on
+    lanes : first_lane width answer.size (piece_at most request number).address ≡ first_lane width request.size request.address
+    lanes = ap (λ (size : ℕ). first_lane width size (piece_at most request number).address) to_piece.answers.size ∙ first_zero width most request number on
 
     parts : part width beat answer.payload ≡ part width (number * answer_beats width most request + beat) (reply_to request answers).payload
     parts = elim (cases_Bool (brings_data (ack_of request.op))) [

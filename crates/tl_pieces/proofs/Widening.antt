@@ -1,25 +1,24 @@
 -- Wide beats put together from narrow ones.
-use Rattle.std.proofs.Common.{ℕ, zero, suc, ◌≡◌, ◌+◌, ◌*◌, ◌/◌, ◌%◌, ◌^◌, ◌-◌, ◌<◌, ◌≤◌, ◌⊎◌, inl, inr, min, max, List, [], ◌∷◌, length, take, drop, map, Bool, true, false, cond, lit<, ap, sym, ◌∙◌, refl, subst, arith}
+use Rattle.std.proofs.Common.{ℕ, zero, suc, ◌≡◌, ◌+◌, ◌*◌, ◌/◌, ◌%◌, ◌^◌, ◌<◌, ◌≤◌, inl, inr, List, length, drop, map, Bool, true, false, cond, ap, sym, ◌∙◌, refl, subst, arith}
 use Rattle.std.specs.Prelude.{◌↔◌}
 use Rattle.std.specs.Int.{from_bool}
 use Rattle.std.proofs.Math.Nat.{pow-zero, mod-add-mod, mod-eq_of_lt, mul-mod_left}
 use Rattle.std.proofs.lemmas.Bool.{cases_lt}
 use Rattle.std.proofs.lemmas.Nat.{pow-add, row_fits, div-add-mod', mod_below, mod-mul-add}
-use Rattle.std.proofs.lemmas.List.{take_all, length-take, length-drop}
+use Rattle.std.proofs.lemmas.List.{take_all, length-take}
 use Rattle.tl_edge.specs.declared.message.Request.{Request}
-use Rattle.tl_edge.specs.declared.message.Response.{Response}
 use Rattle.tl_edge.specs.Messages.{bytes_of}
-use Rattle.tl_edge.specs.Beats.{of_digits, on_lanes, first_lane, data_beats, part, flags_of, a_beat, d_beat}
+use Rattle.tl_edge.specs.Beats.{of_digits, on_lanes, first_lane, data_beats, part, flags_of, a_beat}
 use Rattle.tl_edge.proofs.Active.{first_large, first_small, times-le}
 use Rattle.tl_edge.proofs.LaneByLane.{map-part}
-use Rattle.tl_pieces.specs.TwoBuses.{AreBuses, IsAsking, IsTelling, place_of, wide_number, first_narrow, narrow_count, gathered, EndsWide, WideLaw, EndsLaw}
+use Rattle.tl_pieces.specs.TwoBuses.{IsAsking, lane_in_wide, wide_number, first_narrow, narrow_count, gathered, EndsWide, WideLaw, LastLaw}
 use Rattle.tl_pieces.proofs.Parts.{part-part}
 use Rattle.tl_pieces.proofs.Blocks.{blocks, same_gathered}
 use Rattle.tl_pieces.proofs.Placing.{AreMultiples, multiples, large, middle, small, kind_of, beats_of_large, beats_of_small, IsInRow, in_row, aligned_wide, IsInOne, in_one, IsAlone, alone, column_fits}
 use Rattle.tl_pieces.proofs.Narrowing.{from_lane_0, part-first, AreOnBus, large_lanes, large_beats, data_on_bus, flags_on_bus, answer_on_bus}
 
 -- how many narrow beats lie in each wide one
-large_count : (narrow wide size ratio times : ℕ) → wide / narrow ≡ ratio → data_beats size narrow ≡ times * ratio → 0 < times → narrow_count narrow wide size ≡ ratio
+pub large_count : (narrow wide size ratio times : ℕ) → wide / narrow ≡ ratio → data_beats size narrow ≡ times * ratio → 0 < times → narrow_count narrow wide size ≡ ratio
 large_count narrow wide size ratio times is beats some =
     let few : ratio ≤ times * ratio = at_least times ratio some in omega (arith, is, beats, few)
   where
@@ -27,7 +26,7 @@ large_count narrow wide size ratio times is beats some =
     at_least zero r h = absurd (omega arith)
     at_least (suc t) r h = omega arith
 
-middle_count : (narrow wide size ratio times : ℕ) → wide / narrow ≡ ratio → wide ≡ ratio * narrow → bytes_of size ≡ narrow * times → bytes_of size < wide → data_beats size narrow ≡ times → narrow_count narrow wide size ≡ times
+pub middle_count : (narrow wide size ratio times : ℕ) → wide / narrow ≡ ratio → wide ≡ ratio * narrow → bytes_of size ≡ narrow * times → bytes_of size < wide → data_beats size narrow ≡ times → narrow_count narrow wide size ≡ times
 middle_count narrow wide size ratio times is whole fits under beats =
     elim (cases_lt ratio times) [
       | inl fewer ↦ absurd (omega (arith, under, whole, fits, turned narrow times, row_fits ratio narrow times narrow fewer (omega arith)))
@@ -37,7 +36,7 @@ middle_count narrow wide size ratio times is whole fits under beats =
     turned : (a b : ℕ) → a * b ≡ b * a
     turned a b = grind arith
 
-small_count : (narrow wide size ratio : ℕ) → wide / narrow ≡ ratio → 0 < ratio → data_beats size narrow ≡ 1 → narrow_count narrow wide size ≡ 1
+pub small_count : (narrow wide size ratio : ℕ) → wide / narrow ≡ ratio → 0 < ratio → data_beats size narrow ≡ 1 → narrow_count narrow wide size ≡ 1
 small_count narrow wide size ratio is some beats = omega (arith, is, some, beats)
 
 -- ---- what is said of one list, whatever the base
@@ -49,7 +48,7 @@ narrow_beats_of base narrow size address xs k = on_lanes base (first_lane narrow
 abbrev pub Gathers : ℕ → ℕ → ℕ → ℕ → ℕ → ℕ → List ℕ → Type 0
 Gathers base narrow wide size address number xs =
     on_lanes base (first_lane wide size address) (part wide number xs)
-    ≡ gathered base (place_of narrow wide address) (narrow_beats_of base narrow size address xs) (first_narrow narrow wide number) (narrow_count narrow wide size)
+    ≡ gathered base (lane_in_wide narrow wide address) (narrow_beats_of base narrow size address xs) (first_narrow narrow wide number) (narrow_count narrow wide size)
 
 -- a sum that is moved by nothing
 unmoved : (base n : ℕ) → n * base ^ 0 ≡ n
@@ -65,20 +64,20 @@ large_gathers base narrow wide size address number xs on times some is =
     let first : first_narrow narrow wide number ≡ number * m.ratio = ap (λ (r : ℕ). number * r) m.is_ratio in
     let short : length (part wide number xs) ≤ m.ratio * narrow = omega (arith, length-take wide (drop (number * wide) xs), m.is) in
     let nothing : (i : ℕ) → 0 + i ≡ i = λ i. omega arith in
-    let places : (i : ℕ) → i < m.ratio → place_of narrow wide address (number * m.ratio + i) ≡ (0 + i) * narrow + 0 =
+    let places : (i : ℕ) → i < m.ratio → lane_in_wide narrow wide address (number * m.ratio + i) ≡ (0 + i) * narrow + 0 =
     λ i inside. (in_row narrow wide address number i m.ratio m.is m.positive inside aligned).place_is ∙ omega arith in
     let values : (i : ℕ) → i < m.ratio → narrow_beats_of base narrow size address xs (number * m.ratio + i) ≡ of_digits base (part narrow (0 + i) (part wide number xs)) =
     λ i inside.
-      ap (λ (f : ℕ). on_lanes base f (part narrow (number * m.ratio + i) xs)) lanes.0 ∙ from_lane_0 base (part narrow (number * m.ratio + i) xs)
-      ∙ sym (ap (of_digits base) (ap (λ (w : ℕ). part narrow i (part w number xs)) m.is ∙ part-part narrow m.ratio number i xs inside))
-      ∙ sym (ap (λ (k : ℕ). of_digits base (part narrow k (part wide number xs))) (nothing i)) in
+    ap (λ (f : ℕ). on_lanes base f (part narrow (number * m.ratio + i) xs)) lanes.0 ∙ from_lane_0 base (part narrow (number * m.ratio + i) xs)
+    ∙ sym (ap (of_digits base) (ap (λ (w : ℕ). part narrow i (part w number xs)) m.is ∙ part-part narrow m.ratio number i xs inside))
+    ∙ sym (ap (λ (k : ℕ). of_digits base (part narrow k (part wide number xs))) (nothing i)) in
     ap (λ (f : ℕ). on_lanes base f (part wide number xs)) lanes.1 ∙ from_lane_0 base (part wide number xs)
     ∙ sym (ap (of_digits base) (take_all (m.ratio * narrow) (part wide number xs) short))
     ∙ blocks base narrow m.ratio (part wide number xs)
     ∙ sym (unmoved base (gathered base (λ k. k * narrow) (λ k. of_digits base (part narrow k (part wide number xs))) 0 m.ratio))
-    ∙ sym (same_gathered base (place_of narrow wide address) (λ k. k * narrow) (narrow_beats_of base narrow size address xs) (λ k. of_digits base (part narrow k (part wide number xs))) (number * m.ratio) 0 m.ratio 0 places values)
-    ∙ sym (ap (λ (f : ℕ). gathered base (place_of narrow wide address) (narrow_beats_of base narrow size address xs) f m.ratio) first)
-    ∙ sym (ap (gathered base (place_of narrow wide address) (narrow_beats_of base narrow size address xs) (first_narrow narrow wide number)) count)
+    ∙ sym (same_gathered base (lane_in_wide narrow wide address) (λ k. k * narrow) (narrow_beats_of base narrow size address xs) (λ k. of_digits base (part narrow k (part wide number xs))) (number * m.ratio) 0 m.ratio 0 places values)
+    ∙ sym (ap (λ (f : ℕ). gathered base (lane_in_wide narrow wide address) (narrow_beats_of base narrow size address xs) f m.ratio) first)
+    ∙ sym (ap (gathered base (lane_in_wide narrow wide address) (narrow_beats_of base narrow size address xs) (first_narrow narrow wide number)) count)
 
 middle_gathers : (base narrow wide size address number : ℕ) (xs : List ℕ) (on : AreOnBus base narrow wide size address xs) (times more : ℕ) → 0 < times → 0 < more → bytes_of size ≡ narrow * times → wide ≡ bytes_of size * more
     → bytes_of size < wide → number < data_beats size wide → Gathers base narrow wide size address number xs
@@ -93,9 +92,9 @@ middle_gathers base narrow wide size address number xs on times more some any fi
     let first : first_narrow narrow wide number ≡ 0 = ap (λ (k : ℕ). k * (wide / narrow)) only ∙ omega arith in
     let short : length xs ≤ times * narrow = omega (arith, on.few, fits, turned narrow times) in
     let nothing : (i : ℕ) → 0 + i ≡ i = λ i. omega arith in
-    let places : (i : ℕ) → i < times → place_of narrow wide address (0 + i) ≡ (0 + i) * narrow + address % wide =
+    let places : (i : ℕ) → i < times → lane_in_wide narrow wide address (0 + i) ≡ (0 + i) * narrow + address % wide =
     λ i inside.
-      ap (λ (k : ℕ). place_of narrow wide address k) (nothing i) ∙ (in_one narrow wide size address i times more m.positive any fits is on.aligned inside).place_is ∙ omega arith in
+    ap (λ (k : ℕ). lane_in_wide narrow wide address k) (nothing i) ∙ (in_one narrow wide size address i times more m.positive any fits is on.aligned inside).place_is ∙ omega arith in
     let values : (i : ℕ) → i < times → narrow_beats_of base narrow size address xs (0 + i) ≡ of_digits base (part narrow (0 + i) xs) =
     λ i inside. ap (λ (f : ℕ). on_lanes base f (part narrow (0 + i) xs)) lane_narrow ∙ from_lane_0 base (part narrow (0 + i) xs) in
     ap (λ (k : ℕ). on_lanes base (first_lane wide size address) (part wide k xs)) only
@@ -104,9 +103,9 @@ middle_gathers base narrow wide size address number xs on times more some any fi
     ∙ ap (λ (ys : List ℕ). base ^ (address % wide) * of_digits base ys) (sym (take_all (times * narrow) xs short))
     ∙ ap (λ (n : ℕ). base ^ (address % wide) * n) (blocks base narrow times xs)
     ∙ turned (base ^ (address % wide)) (gathered base (λ k. k * narrow) (λ k. of_digits base (part narrow k xs)) 0 times)
-    ∙ sym (same_gathered base (place_of narrow wide address) (λ k. k * narrow) (narrow_beats_of base narrow size address xs) (λ k. of_digits base (part narrow k xs)) 0 0 times (address % wide) places values)
-    ∙ sym (ap (λ (f : ℕ). gathered base (place_of narrow wide address) (narrow_beats_of base narrow size address xs) f times) first)
-    ∙ sym (ap (gathered base (place_of narrow wide address) (narrow_beats_of base narrow size address xs) (first_narrow narrow wide number)) count)
+    ∙ sym (same_gathered base (lane_in_wide narrow wide address) (λ k. k * narrow) (narrow_beats_of base narrow size address xs) (λ k. of_digits base (part narrow k xs)) 0 0 times (address % wide) places values)
+    ∙ sym (ap (λ (f : ℕ). gathered base (lane_in_wide narrow wide address) (narrow_beats_of base narrow size address xs) f times) first)
+    ∙ sym (ap (gathered base (lane_in_wide narrow wide address) (narrow_beats_of base narrow size address xs) (first_narrow narrow wide number)) count)
   where
     turned : (a b : ℕ) → a * b ≡ b * a
     turned a b = grind arith
@@ -130,8 +129,8 @@ small_gathers base narrow wide size address number xs on under below =
     ∙ regroup (base ^ (address % wide / narrow * narrow)) (base ^ (address % narrow)) (of_digits base xs)
     ∙ sym (ap (λ (n : ℕ). 0 + n * base ^ (address % wide / narrow * narrow)) beat)
     ∙ sym (ap (λ (p : ℕ). 0 + narrow_beats_of base narrow size address xs 0 * base ^ p) at.place_is)
-    ∙ sym (ap (λ (f : ℕ). gathered base (place_of narrow wide address) (narrow_beats_of base narrow size address xs) f 1) first)
-    ∙ sym (ap (gathered base (place_of narrow wide address) (narrow_beats_of base narrow size address xs) (first_narrow narrow wide number)) count)
+    ∙ sym (ap (λ (f : ℕ). gathered base (lane_in_wide narrow wide address) (narrow_beats_of base narrow size address xs) f 1) first)
+    ∙ sym (ap (gathered base (lane_in_wide narrow wide address) (narrow_beats_of base narrow size address xs) (first_narrow narrow wide number)) count)
   where
     regroup : (a c n : ℕ) → a * c * n ≡ 0 + c * n * a
     regroup a c n = grind arith
@@ -152,11 +151,11 @@ same_values base place value other first (suc count) e =
     ∙ ap (λ (n : ℕ). gathered base place other first count + n * base ^ place (first + count)) (e (first + count))
 
 mask_gathers : (narrow wide : ℕ) (request : Request) (number : ℕ) → IsAsking narrow wide request → number < data_beats request.size wide
-    → (a_beat wide request number).mask ≡ gathered 2 (place_of narrow wide request.address) (λ k. (a_beat narrow request k).mask) (first_narrow narrow wide number) (narrow_count narrow wide request.size)
+    → (a_beat wide request number).mask ≡ gathered 2 (lane_in_wide narrow wide request.address) (λ k. (a_beat narrow request k).mask) (first_narrow narrow wide number) (narrow_count narrow wide request.size)
 mask_gathers narrow wide request number asks below =
     sym (ap (on_lanes 2 (first_lane wide request.size request.address)) (map-part wide number (flags_of request)))
     ∙ gathers 2 narrow wide request.size request.address number (map from_bool (flags_of request)) (flags_on_bus narrow wide request asks) below
-    ∙ same_values 2 (place_of narrow wide request.address) (narrow_beats_of 2 narrow request.size request.address (map from_bool (flags_of request))) (λ k. (a_beat narrow request k).mask)
+    ∙ same_values 2 (lane_in_wide narrow wide request.address) (narrow_beats_of 2 narrow request.size request.address (map from_bool (flags_of request))) (λ k. (a_beat narrow request k).mask)
     (first_narrow narrow wide number) (narrow_count narrow wide request.size)
     (λ k. ap (on_lanes 2 (first_lane narrow request.size request.address)) (map-part narrow k (flags_of request)))
 
@@ -174,7 +173,7 @@ wide_law = record {
   mask = mask_gathers;
   payload = λ narrow wide request number asks below. gathers 256 narrow wide request.size request.address number request.payload (data_on_bus narrow wide request asks) below;
   back = λ narrow wide request response number tells below.
-      denied_gathers response.denied 256 (place_of narrow wide request.address) (narrow_beats_of 256 narrow response.size request.address response.payload) (first_narrow narrow wide number)
+      denied_gathers response.denied 256 (lane_in_wide narrow wide request.address) (narrow_beats_of 256 narrow response.size request.address response.payload) (first_narrow narrow wide number)
       (narrow_count narrow wide response.size) _ (gathers 256 narrow wide response.size request.address number response.payload (answer_on_bus narrow wide request response tells) below);
 }
 
@@ -246,19 +245,18 @@ large_both narrow wide size address number ratio times is positive some any alig
     let inside : number % ratio < ratio = mod_below number ratio some in
     let at : IsInRow narrow wide address (number / ratio) (number % ratio) ratio = in_row narrow wide address (number / ratio) (number % ratio) ratio is positive inside aligned in
     let row : wide_number narrow wide address number ≡ number / ratio = sym (ap (λ (k : ℕ). wide_number narrow wide address k) split) ∙ at.wide_is in
-    let moved : wide_number narrow wide address number * ratio ≡ number / ratio * ratio = ap (λ (k : ℕ). k * ratio) row in
-    (
+    let moved : wide_number narrow wide address number * ratio ≡ number / ratio * ratio = ap (λ (k : ℕ). k * ratio) row in (
       λ ends.
-        let full : number % ratio + 1 ≡ ratio =
-        large_ends narrow wide size address (number / ratio) (number % ratio) ratio times is positive inside aligned beats (subst (λ (k : ℕ). EndsWide narrow wide size address k) (sym split) ends) in
-        omega (arith, split, full, moved),
+          let full : number % ratio + 1 ≡ ratio =
+          large_ends narrow wide size address (number / ratio) (number % ratio) ratio times is positive inside aligned beats (subst (λ (k : ℕ). EndsWide narrow wide size address k) (sym split) ends) in
+          omega (arith, split, full, moved),
       λ last.
-        let full : number % ratio + 1 ≡ ratio = omega (arith, split, last, moved) in
-        subst (λ (k : ℕ). EndsWide narrow wide size address k) split (large_ends_back narrow wide size address (number / ratio) (number % ratio) ratio is positive any aligned full),
+          let full : number % ratio + 1 ≡ ratio = omega (arith, split, last, moved) in
+          subst (λ (k : ℕ). EndsWide narrow wide size address k) split (large_ends_back narrow wide size address (number / ratio) (number % ratio) ratio is positive any aligned full),
     )
 
-pub ends_law : EndsLaw
-ends_law narrow wide request number asks below = elim (kind_of narrow wide request.size asks.buses) [
+pub last_law : LastLaw
+last_law narrow wide request number asks below = elim (kind_of narrow wide request.size asks.buses) [
   | large times some is ↦
       let m : AreMultiples narrow wide = multiples narrow wide asks.buses in
       let any : 0 < wide = omega (arith, asks.buses.less, m.positive) in
@@ -273,8 +271,7 @@ ends_law narrow wide request number asks below = elim (kind_of narrow wide reque
       let within : number < times = omega (arith, below, beats) in
       let at : IsInOne narrow wide request.size request.address number = in_one narrow wide request.size request.address number times more m.positive any fits is asks.whole.shape.aligned within in
       let count : narrow_count narrow wide request.size ≡ times = middle_count narrow wide request.size m.ratio times m.is_ratio m.is fits under beats in
-      let first : first_narrow narrow wide (wide_number narrow wide request.address number) ≡ 0 = ap (λ (k : ℕ). k * (wide / narrow)) at.wide_is ∙ omega arith in
-      (
+      let first : first_narrow narrow wide (wide_number narrow wide request.address number) ≡ 0 = ap (λ (k : ℕ). k * (wide / narrow)) at.wide_is ∙ omega arith in (
         λ ends. omega (arith, middle_ends narrow wide request.size request.address number times more m.positive any fits is asks.whole.shape.aligned within beats ends, first, count),
         λ last. inl (omega (arith, last, first, count, beats)),
       )

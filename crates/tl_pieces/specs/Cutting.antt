@@ -24,8 +24,8 @@ is_cut most request = may_be_cut request.op && nat_lt most (bytes_of request.siz
 
 -- the piece with a number, counted from 0, of some bytes: it begins behind the earlier ones, and has its own part of
 -- the flags and the data
-abbrev pub piece : ℕ → Request → ℕ → Request
-piece most request number = record {
+abbrev pub piece_at : ℕ → Request → ℕ → Request
+piece_at most request number = record {
   op = request.op;
   param = request.param;
   size = log_of most;
@@ -39,10 +39,13 @@ piece most request number = record {
 abbrev pub piece_count : ℕ → Request → ℕ
 piece_count most request = bytes_of request.size / most
 
--- the pieces of a request, each of at most so many bytes: all else stays one message
+-- these pieces, in order
+abbrev pub all_pieces : ℕ → Request → List Request
+all_pieces most request = map (piece_at most request) (range_with_len 0 (piece_count most request))
+
+-- the messages into which a request is cut at so many bytes: what isn't cut stays one message
 abbrev pub cut_at : ℕ → Request → List Request
-cut_at most request =
-    cond (is_cut most request) (map (piece most request) (range_with_len 0 (piece_count most request))) (request ∷ [])
+cut_at most request = cond (is_cut most request) (all_pieces most request) (request ∷ [])
 
 -- one of the answers is denied
 abbrev pub any_denied : List Response → Bool

@@ -60,17 +60,12 @@ fn offset_address(address: u64, size: u32, offset: u32) -> u64
 }
 
 /// The piece of a request with a number, from 0, of `most` bytes.
-pub fn piece(
-    alloc: Global,
-    most: u32,
-    request: &Request,
-    number: u32,
-) -> Result<Request, Memory>
+pub fn piece_at(alloc: Global, most: u32, request: &Request, number: u32) -> Result<Request, Memory>
     requires size { IsPowerOfTwo most }
     requires request { IsRequest request.now }
     requires cut { IsTrue (spec.is_cut most request.now) }
     requires number { number < spec.piece_count most request.now }
-    ensures { IfOk result (λ made. made ≡ spec.piece most request.now number) }
+    ensures { IfOk result (λ made. made ≡ spec.piece_at most request.now number) }
 {
     Ok(Request {
         op: request.op,
@@ -107,7 +102,7 @@ fn all_pieces(alloc: Global, most: u32, request: &Request) -> Result<Requests, M
 {
     let mut pieces = Items::new(alloc);
     for number in 0..piece_count(most, request) {
-        pieces.push(piece(alloc, most, request, number)?)?;
+        pieces.push(piece_at(alloc, most, request, number)?)?;
     }
     Ok(pieces)
 }

@@ -1,5 +1,5 @@
 ghost use Rattle.tl_pieces.specs.CutLaws.{CutLaw, PieceBeatsLaw, ReplyLaw};
-ghost use Rattle.tl_pieces.specs.TwoBuses.{EndsLaw, NarrowLaw, WideLaw};
+ghost use Rattle.tl_pieces.specs.TwoBuses.{KeptLaw, LastLaw, NarrowLaw, WideLaw};
 
 /// The pieces of a request are whole requests apart, with its bytes where they belong.
 pub fn cut_law()
@@ -27,6 +27,11 @@ pub fn wide_law()
 {}
 
 /// Which narrow beat is the last of a wide one.
-pub fn ends_law()
-    ensures { EndsLaw }
+pub fn last_law()
+    ensures { LastLaw }
+{}
+
+/// What is kept of a wide beat and the next narrow one are put together by a bitwise or.
+pub fn kept_law()
+    ensures { KeptLaw }
 {}

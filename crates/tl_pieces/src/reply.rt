@@ -14,11 +14,11 @@ fn any_denied(answers: &[Response]) -> bool
 }
 
 // Adds bytes at the end of others.
-fn append(data: &mut Bytes, bytes: &[u8]) -> Result<(), Memory>
-    ensures { OnOk result (data.new ≡ data.old ++ bytes.now) }
+fn append(list: &mut Bytes, bytes: &[u8]) -> Result<(), Memory>
+    ensures { OnOk result (list.new ≡ list.old ++ bytes.now) }
 {
     for byte in bytes {
-        data.push(*byte)?;
+        list.push(*byte)?;
     }
     Ok(())
 }
@@ -58,13 +58,9 @@ fn reply_data(alloc: Global, request: &Request, answers: &[Response]) -> Result<
     }
 }
 
-/// The reply to a request whose pieces got these answers: denied where one of them is, and with their data joined,
-/// or as many zeros.
-pub fn reply_to(
-    alloc: Global,
-    request: &Request,
-    answers: &[Response],
-) -> Result<Response, Memory>
+/// The reply to a request whose pieces got these answers: denied where one of them is, and with their data
+/// joined, or as many zeros.
+pub fn reply_to(alloc: Global, request: &Request, answers: &[Response]) -> Result<Response, Memory>
     requires { request.now.size ≤ 8 }
     ensures { IfOk result (λ reply. reply ≡ spec.reply_to request.now answers.now) }
 {

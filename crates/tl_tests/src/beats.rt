@@ -22,9 +22,9 @@ pub fn count(rest: &str, text: &mut String) -> Result<(), Memory> {
     say_number(text, u64::from(beats(op_of(op), size, width)))
 }
 
-// The width of a bus, and the fields of a request: the operation, its size, source and address, its flags
-// and the first of its bytes.
-fn fields_of(alloc: Global, rest: &str) -> Result<Option<(u32, Fields)>, Memory> {
+/// A number, as the width of a bus, and the fields of a request: the operation, its size, source and
+/// address, its flags and the first of its bytes.
+pub fn fields_of(alloc: Global, rest: &str) -> Result<Option<(u32, Fields)>, Memory> {
     let (width, rest) = rest.split_once(' ').unwrap_or((rest, ""));
     let (op, rest) = rest.split_once(' ').unwrap_or((rest, ""));
     let numbers = numbers(alloc, rest)?;

@@ -1,12 +1,14 @@
-//! Calls on parameters, messages and beats, a case a line: the program reads lines from its input, and
-//! prints each with the answer.
+//! Calls on parameters, messages, beats and pieces, a case a line: the program reads lines from its
+//! input, and prints each with the answer.
 #![tactic(auto)]
 
 mod beats;
 mod codes;
 mod made;
 mod messages;
+mod pieces;
 mod ports;
+mod wires;
 mod words;
 
 use dip_lists::Memory;
@@ -31,6 +33,12 @@ fn answer(alloc: Global, word: &str, rest: &str, text: &mut String) -> Result<()
         "copies" => ports::copies(alloc, text),
         "count" => beats::count(rest, text),
         "sent" => beats::sent(alloc, rest, text),
+        "active" => wires::active(rest, text),
+        "bits" => wires::bits(alloc, rest, text),
+        "down" => wires::down(alloc, rest, text),
+        "up" => wires::up(alloc, rest, text),
+        "cut" => pieces::cut(alloc, rest, text),
+        "reply" => pieces::reply(alloc, rest, text),
         _ => beats::back(alloc, rest, text),
     }
 }
