@@ -219,6 +219,19 @@ fn has_ports_of(lazy: &Lazy<'_>, solution: &Solution, edge: u32) -> bool
     down && up
 }
 
+// Whether all of so many edges have them.
+fn all_have_ports_of(lazy: &Lazy<'_>, solution: &Solution, edges: u32) -> bool
+    requires is { IsLazy (⟦<Rules as Stating>⟧.stated lazy.now.rules.now) lazy.now.design.now
+        lazy.now.edges.now lazy.now.down_turns lazy.now.down.items lazy.now.up_turns lazy.now.up.items }
+{
+    for edge in 0..edges {
+        if !has_ports_of(lazy, solution, edge) {
+            return false;
+        }
+    }
+    true
+}
+
 // Whether demands in one order give the ports of a solution.
 fn gives_solution(
     rt: &HostRuntime,
@@ -234,7 +247,7 @@ fn gives_solution(
     if !demand_all(rt, &mut lazy, edges, seed)? {
         return Ok(false);
     }
-    Ok((0..edges).all(|edge| has_ports_of(&lazy, solution, edge)))
+    Ok(all_have_ports_of(&lazy, solution, edges))
 }
 
 // How many of ten orders give the ports of the solution.
