@@ -3,3 +3,4 @@ pub mod Turns
 pub mod Behind
 pub mod Bound
 pub mod Complete
+pub mod Least
