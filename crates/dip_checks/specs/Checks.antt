@@ -122,6 +122,12 @@ abbrev pub has_overlap : List Pattern → Bool
 has_overlap [] = false
 has_overlap (s ∷ sets) = list_any (overlap s) sets || has_overlap sets
 
+-- a set and the next one have a common address
+abbrev pub neighbours_overlap : List Pattern → Bool
+neighbours_overlap [] = false
+neighbours_overlap (s ∷ []) = false
+neighbours_overlap (s ∷ t ∷ sets) = overlap s t || neighbours_overlap (t ∷ sets)
+
 -- two sets of the edge have one
 abbrev pub edge_overlaps : UpPort → Bool
 edge_overlaps up = has_overlap (sets_of up.slaves)

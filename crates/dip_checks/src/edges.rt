@@ -1,4 +1,4 @@
-ghost use Rattle.std.specs.Prelude.{◌≡◌, ◌↔◌, None, slice_get, IsTrue, IfOk, IfErr, OnOk, All, Any};
+ghost use Rattle.std.specs.Prelude.{◌≡◌, None, slice_get, IsTrue, IfOk, IfErr, OnOk, All, Any};
 ghost use Rattle.std.specs.Option.{IsSomeAnd};
 ghost use Rattle.std.specs.List.{list_any};
 ghost use Rattle.dip_lists.specs.First.{first, first_failing};
@@ -6,12 +6,13 @@ ghost use Rattle.dip_sets.specs.Ids.{overlap_ids};
 ghost use Rattle.dip_graph.specs.Faults.{IsFaultAt, IsFaultOf};
 ghost use Rattle.tl_params.specs.Apart.{HasDisjointSets};
 ghost use Rattle.dip_checks.specs.Checks as spec;
+ghost use Rattle.dip_checks.specs.Rows.{StandAmong};
 
 use crate::sets::{edge_is_misaligned, sets_of, some_overlap};
 use dip_graph::Fault;
 use dip_lists::{Items, Memory, Same};
 use std::alloc::Global;
-use tl_params::{DownPort, Master, Slaves, UpPort};
+use tl_params::{DownPort, Master, Slave, UpPort};
 
 /// The most ids on an edge.
 const MOST_IDS: u32 = 1024;
@@ -87,34 +88,53 @@ fn edge_overlaps(alloc: Global, up: &UpPort) -> Result<bool, Memory>
     Ok(some_overlap(sets))
 }
 
-// Whether an edge has these slaves.
-fn has_slaves(ups: &[UpPort], edge: usize, slaves: &Slaves) -> bool
-    ensures { IsTrue result ↔ (IsSomeAnd (slice_get ups.now edge) (λ up. up.slaves ≡ slaves.now)) }
+// Whether some slaves stand among others in the same order.
+fn stand_among(slaves: &[Slave], others: &[Slave]) -> bool
+    ensures { IsTrue result → StandAmong slaves.now others.now }
+{
+    let mut found = 0;
+    for other in others {
+        if found < slaves.len() && slaves[found].same(other) {
+            found += 1;
+        }
+    }
+    found == slaves.len()
+}
+
+// Whether these slaves stand among those of an edge.
+fn edge_has_slaves(ups: &[UpPort], edge: usize, slaves: &[Slave]) -> bool
+    ensures { IsTrue result → IsSomeAnd (slice_get ups.now edge) (λ up. StandAmong slaves.now up.slaves) }
 {
     match ups.get(edge) {
-        Some(up) => up.slaves.same(slaves),
+        Some(up) => stand_among(slaves, up.slaves.as_slice()),
         None => false,
     }
 }
 
-// Whether one of these edges has these slaves.
-fn some_have_slaves(ups: &[UpPort], edges: &[usize], slaves: &Slaves) -> bool
-    ensures { IsTrue result ↔ Any (λ edge. IsSomeAnd (slice_get ups.now edge) (λ up. up.slaves ≡ slaves.now))
-        edges.now }
+// Whether these slaves stand among those of one of some edges.
+fn some_have_slaves(ups: &[UpPort], edges: &[usize], slaves: &[Slave]) -> bool
+    ensures { IsTrue result → Any (λ edge. IsSomeAnd (slice_get ups.now edge) (λ up. StandAmong slaves.now
+        up.slaves)) edges.now }
 {
-    edges.iter().any(|edge| has_slaves(ups, *edge, slaves))
+    for edge in edges {
+        if edge_has_slaves(ups, *edge, slaves) {
+            return true;
+        }
+    }
+    false
 }
 
 // Check 14: no two address sets of an edge have a common address.
 //
-// Where slaves are those of an edge that was already found to be in order, they are not looked at again.
+// Where slaves stand among those of an edge that was already found to be in order, they are not looked at
+// again.
 fn sets_are_apart(alloc: Global, ups: &[UpPort]) -> Result<(), Fault>
     ensures passes { OnOk result (first (spec.overlapping_edges ups.now) ≡ None) }
     ensures err { IfErr result (IsFaultAt 14 (spec.overlapping_edges ups.now)) }
 {
     let mut apart = Items::new(alloc);
     for (edge, up) in ups.iter().enumerate() {
-        if some_have_slaves(ups, apart.as_slice(), &up.slaves) {
+        if some_have_slaves(ups, apart.as_slice(), up.slaves.as_slice()) {
             continue;
         }
         if edge_overlaps(alloc, up)? {

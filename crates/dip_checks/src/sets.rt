@@ -46,10 +46,23 @@ fn stand_in_row(sets: &[AddressSet]) -> bool
     true
 }
 
+// Whether some set has a common address with the next one.
+#[tactic(auto, using(crate::proofs::Rows::neighbours_more, crate::proofs::Rows::neighbours_end))]
+fn neighbours_overlap(sets: &[AddressSet]) -> bool
+    ensures { result ≡ spec.neighbours_overlap sets.now }
+{
+    for place in 1..sets.len() {
+        if sets[place - 1].overlaps(&sets[place]) {
+            return true;
+        }
+    }
+    false
+}
+
 /// Whether two of some sets have a common address.
 ///
-/// Sorted by their bases, sets without holes that have none stand in a row. Where they don't, all are
-/// compared pair by pair.
+/// Sorted by their bases, sets without holes either stand in a row, or some set has a common address with the
+/// next one, as two equal sets have. Only where neither is so, all are compared pair by pair.
 pub fn some_overlap(sets: Items<AddressSet>) -> bool
     ensures { result ≡ spec.has_overlap sets }
 {
@@ -58,6 +71,9 @@ pub fn some_overlap(sets: Items<AddressSet>) -> bool
     let sorted = sorted.as_slice();
     if stand_in_row(sorted) {
         return false;
+    }
+    if neighbours_overlap(sorted) {
+        return true;
     }
     has_overlap(sorted)
 }

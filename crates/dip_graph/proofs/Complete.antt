@@ -19,7 +19,7 @@ yes_not_no : (b : Bool) → b ≡ true → b ≡ false → ⊥
 yes_not_no true h e = (cc)
 yes_not_no false h e = (cc)
 
-unless : (b : Bool) → (b ≡ true → ⊥) → b ≡ false
+pub unless : (b : Bool) → (b ≡ true → ⊥) → b ≡ false
 unless true h = absurd (h refl)
 unless false h = refl
 
@@ -106,7 +106,7 @@ at_end binds nodes listed (suc turns) d l = at (least_ready binds nodes listed) 
 
 -- ---- what isn't ready waits
 
-unmet : (listed : List ℕ) (n : ℕ) (binds : List BindEntry) → list_all (is_met listed n) binds ≡ false → (b : BindEntry) × Contains binds b × (is_met listed n b ≡ false)
+pub unmet : (listed : List ℕ) (n : ℕ) (binds : List BindEntry) → list_all (is_met listed n) binds ≡ false → (b : BindEntry) × Contains binds b × (is_met listed n b ≡ false)
 unmet listed n [] h = absurd cc
 unmet listed n (a ∷ binds) h = at (is_met listed n a) refl h (unmet listed n binds)
   where
@@ -115,7 +115,7 @@ unmet listed n (a ∷ binds) h = at (is_met listed n a) refl h (unmet listed n b
     at true e h f = let u = f h in (u.0, Contains-append_right (a ∷ []) binds u.0 u.1, u.2)
     at false e h f = (a, Contains-append_left (a ∷ []) binds a (Contains-push [] a), e)
 
-waits : (listed : List ℕ) (n : ℕ) (b : BindEntry) → is_met listed n b ≡ false → (b.to ≡ n) × (Contains listed b.from → ⊥)
+pub waits : (listed : List ℕ) (n : ℕ) (b : BindEntry) → is_met listed n b ≡ false → (b.to ≡ n) × (Contains listed b.from → ⊥)
 waits listed n b h = at (b.to == n) refl (is_listed listed b.from) refl h
   where
     at : (t : Bool) → (b.to == n) ≡ t → (f : Bool) → is_listed listed b.from ≡ f → (not t || f) ≡ false → (b.to ≡ n) × (Contains listed b.from → ⊥)
@@ -123,7 +123,7 @@ waits listed n b h = at (b.to == n) refl (is_listed listed b.from) refl h
     at true e true g h = absurd cc
     at true e false g h = (eqb-true b.to n e, λ c. yes_not_no (is_listed listed b.from) (to_listed listed b.from c) g)
 
-rest_fails : (listed : List ℕ) (n : ℕ) (rest : Bool) → (not (is_listed listed n) && rest) ≡ false → (Contains listed n → ⊥) → rest ≡ false
+pub rest_fails : (listed : List ℕ) (n : ℕ) (rest : Bool) → (not (is_listed listed n) && rest) ≡ false → (Contains listed n → ⊥) → rest ≡ false
 rest_fails listed n rest h out = at (is_listed listed n) refl h
   where
     at : (b : Bool) → is_listed listed n ≡ b → (not b && rest) ≡ false → rest ≡ false

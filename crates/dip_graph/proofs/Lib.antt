@@ -4,3 +4,4 @@ pub mod Behind
 pub mod Bound
 pub mod Complete
 pub mod Unlike
+pub mod Least

@@ -1,6 +1,6 @@
 -- The canonical order of a design's nodes: each next one is the least node that isn't listed yet and whose bound
 -- from-nodes are.
-use Rattle.std.specs.Prelude.{ℕ, zero, suc, ◌+◌, ◌≡◌, ◌<◌, Bool, true, not, ◌&&◌, ◌||◌, ◌==◌, cond}
+use Rattle.std.specs.Prelude.{ℕ, zero, suc, ◌+◌, ◌≡◌, ◌<◌, ◌⊎◌, Bool, true, not, ◌&&◌, ◌||◌, ◌==◌, cond}
 use Rattle.std.specs.Prelude.{List, [], ◌∷◌, ◌++◌, length, Contains, Option, Some, None}
 use Rattle.std.specs.List.{list_any, list_all}
 use Rattle.dip_lists.specs.First.{first, places}
@@ -92,3 +92,18 @@ EachLeftOutWaits =
     → n < length design.nodes
     → (Contains (canonical_order design) n → ⊥)
     → (b : BindEntry) × Contains design.binds b × (b.to ≡ n) × (Contains (canonical_order design) b.from → ⊥)
+
+-- A node isn't ready behind listed ones: it is one of them, or a bind to it comes from a node that isn't.
+abbrev pub IsHeld : List BindEntry → List ℕ → ℕ → Type 0
+IsHeld binds listed n =
+    Contains listed n ⊎ ((b : BindEntry) × Contains binds b × (b.to ≡ n) × (Contains listed b.from → ⊥))
+
+-- No node below the next one is ready, and at the end none of so many is.
+abbrev pub AreLeast : List BindEntry → ℕ → List ℕ → List ℕ → Type 0
+AreLeast binds nodes listed [] = (m : ℕ) → m < nodes → IsHeld binds listed m
+AreLeast binds nodes listed (n ∷ ns) =
+    ((m : ℕ) → m < n → IsHeld binds listed m) × AreLeast binds nodes (listed ++ n ∷ []) ns
+
+-- so it is in the canonical order of every design
+abbrev pub EachNextIsLeast : Type 0
+EachNextIsLeast = (design : Design) → AreLeast design.binds (length design.nodes) [] (canonical_order design)

@@ -1,3 +1,4 @@
 pub mod Rounds
 pub mod Edges
 pub mod Follows
+pub mod Filled

@@ -6,7 +6,7 @@ mod laws;
 mod rounds;
 mod stars;
 
-pub use laws::edges_law;
+pub use laws::{edges_law, filled_law};
 // The types of which the definitions of rounds speak.
 pub use rounds::{Counted, Counts};
 pub use stars::{StarFault, resolve};

@@ -15,15 +15,25 @@ mod text;
 use crate::asked::{ask_closures, ask_down, ask_fits, ask_kind, ask_up};
 use crate::broken::Broken;
 use crate::graphs::{ask_edges, ask_order, ask_ports, ask_weight};
-use crate::own::refusing_rule;
+use crate::lazy::{Counters, ask_demands, ask_orders};
+use crate::own::{counting_rule, refusing_rule, refusing_up};
 use crate::text::{halves, name};
+use dip_lists::Memory;
 use dip_rule::{Rule, RuleEntry, Rules};
+use std::alloc::Global;
+use std::cell::Cell;
 use std::process::ExitCode;
+use std::rc::Rc;
 use tl_params::Template;
 use tl_rules::boxed_standard_rules;
 
 // The answer to a question; other lines have none.
-fn answer(rt: &HostRuntime, rules: &Rules, line: &str) -> Result<(), Broken> {
+fn answer(
+    rt: &HostRuntime,
+    rules: &Rules,
+    counters: &Counters,
+    line: &str,
+) -> Result<(), Broken> {
     let (question, text) = halves(line, ' ');
     match question {
         "order" => ask_order(rt, text),
@@ -35,23 +45,25 @@ fn answer(rt: &HostRuntime, rules: &Rules, line: &str) -> Result<(), Broken> {
         "up" => ask_up(rt, rules, text),
         "fits" => ask_fits(rt, rules, text),
         "closures" => ask_closures(rt),
+        "demands" => ask_demands(rt, rules, counters, text),
+        "orders" => ask_orders(rt, rules, text),
         _ => Ok(()),
     }
 }
 
 // Each line of the input with its answer.
-fn answers(rt: &HostRuntime, rules: &Rules) -> Result<(), Broken> {
+fn answers(rt: &HostRuntime, rules: &Rules, counters: &Counters) -> Result<(), Broken> {
     for line in rt.lines(rt.alloc()) {
         let line = line?;
         println!(rt; "{}", line.as_str())?;
-        answer(rt, rules, line.as_str())?;
+        answer(rt, rules, counters, line.as_str())?;
     }
     Ok(())
 }
 
 // The standard rules, and behind them a second rule of the kind `buffer` and one of the kind `seven`, which
-// refuse.
-fn run(rt: &HostRuntime) -> Result<(), Broken> {
+// refuse, one of the kind `nine`, which refuses up, and two that count, of the kinds `one` and `two`.
+fn run(rt: &HostRuntime, counters: &Counters) -> Result<(), Broken> {
     let alloc = rt.alloc();
     let mut rules = boxed_standard_rules!(alloc);
     let second: Box<dyn Rule> = refusing_rule(alloc)?;
@@ -66,11 +78,44 @@ fn run(rt: &HostRuntime) -> Result<(), Broken> {
         template: Template::Buffer,
         rule: seven,
     })?;
-    answers(rt, &rules)
+    let nine: Box<dyn Rule> = refusing_up(alloc)?;
+    rules.entries.push(RuleEntry {
+        kind: name(alloc, "nine")?,
+        template: Template::Buffer,
+        rule: nine,
+    })?;
+    let one: Box<dyn Rule> = counting_rule(alloc, &counters.one, &counters.short)?;
+    rules.entries.push(RuleEntry {
+        kind: name(alloc, "one")?,
+        template: Template::Buffer,
+        rule: one,
+    })?;
+    let two: Box<dyn Rule> = counting_rule(alloc, &counters.two, &counters.never)?;
+    rules.entries.push(RuleEntry {
+        kind: name(alloc, "two")?,
+        template: Template::Buffer,
+        rule: two,
+    })?;
+    answers(rt, &rules, counters)
+}
+
+// Counters of no askings.
+fn no_askings(alloc: Global) -> Result<Counters, Memory> {
+    Ok(Counters {
+        one: Rc::new(alloc, Cell::new(0))?,
+        two: Rc::new(alloc, Cell::new(0))?,
+        short: Rc::new(alloc, Cell::new(false))?,
+        never: Rc::new(alloc, Cell::new(false))?,
+    })
+}
+
+fn counted_run(rt: &HostRuntime) -> Result<(), Broken> {
+    let counters = no_askings(rt.alloc())?;
+    run(rt, &counters)
 }
 
 fn main(rt: HostRuntime) -> ExitCode {
-    match run(&rt) {
+    match counted_run(&rt) {
         Ok(()) => ExitCode::from(0),
         Err(Broken::Memory) => ExitCode::from(1),
         Err(Broken::Out) => ExitCode::from(2),

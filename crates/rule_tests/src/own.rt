@@ -141,3 +141,21 @@ pub fn closed(alloc: Global) -> (u16, u16) {
         },
     )
 }
+
+/// A rule that counts, in a box of its own.
+pub fn counting_rule(
+    alloc: Global,
+    asked: &Rc<Cell<u32>>,
+    short: &Rc<Cell<bool>>,
+) -> Result<Box<Counting>, Memory> {
+    Ok(Box::new(alloc, Counting {
+        alloc,
+        asked: asked.clone()?,
+        short: short.clone()?,
+    })?)
+}
+
+/// A rule that refuses up, in a box of its own.
+pub fn refusing_up(alloc: Global) -> Result<Box<RefusingUp>, Memory> {
+    Ok(Box::new(alloc, RefusingUp { alloc })?)
+}

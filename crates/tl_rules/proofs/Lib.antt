@@ -6,3 +6,4 @@ pub mod Shifting
 pub mod StandardKinds
 pub mod Going
 pub mod Fitting
+pub mod Answering

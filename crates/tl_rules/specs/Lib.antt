@@ -8,3 +8,4 @@ pub mod ShiftedIds
 pub mod Standard
 pub mod Pieces
 pub mod RulesFit
+pub mod RulesAnswer

@@ -1,4 +1,5 @@
 ghost use Rattle.tl_rules.specs.Pieces.{PiecesLaw};
+ghost use Rattle.tl_rules.specs.RulesAnswer.{RulesAnswerLaw};
 ghost use Rattle.tl_rules.specs.RulesFit.{RulesFitLaw};
 ghost use Rattle.tl_rules.specs.ShiftedIds.{ShiftedIdsLaw};
 
@@ -21,4 +22,10 @@ pub fn pieces_law()
 /// has a width that buses may have, and a fragmenter's pieces have at least the bytes of one beat.
 pub fn rules_fit_law()
     ensures { RulesFitLaw }
+{}
+
+/// The bus above a width adapter is as wide as its argument says, that above a crossbar as its first output's,
+/// and what a master above a shrinker emits the one below emits too.
+pub fn rules_answer_law()
+    ensures { RulesAnswerLaw }
 {}

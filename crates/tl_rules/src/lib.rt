@@ -18,7 +18,7 @@ pub use buffer::{buffer_down, buffer_up};
 pub use dip_rule::Rule;
 pub use fit::fits;
 pub use fragmenter::{fragmenter_down, fragmenter_up};
-pub use laws::{pieces_law, rules_fit_law, shifted_ids_law};
+pub use laws::{pieces_law, rules_answer_law, rules_fit_law, shifted_ids_law};
 pub use shrinker::{shrinker_down, shrinker_up};
 pub use sides::{
     BufferRule, BufferSides, FragmenterRule, FragmenterSides, ShrinkerRule, ShrinkerSides,
