@@ -1,26 +1,25 @@
 -- A cycle of an engine: its values are the only ones, and it is an engine afterwards.
-use Rattle.std.proofs.Common.{◌≡◌, ℕ, suc, ◌+◌, ◌-◌, ◌^◌, ◌<◌, ◌≤◌, inl, inr, List, [], ◌∷◌, ◌++◌, length, map, take, drop, get_or, refl, sym, ap, ◌∙◌, subst, arith, append_assoc, length-append}
+use Rattle.std.proofs.Common.{◌≡◌, ℕ, suc, ◌+◌, ◌-◌, ◌<◌, ◌≤◌, inl, inr, List, [], ◌∷◌, ◌++◌, length, map, take, drop, get_or, refl, sym, ap, ◌∙◌, subst, arith, append_assoc, length-append}
 use Rattle.std.specs.Prelude.{All, slice_index}
 use Rattle.std.proofs.lemmas.Bool.{cases_lt}
-use Rattle.std.proofs.lemmas.List.{get_or_append_left, get_or-append_right, get_or-append-add, get_or-take, get_or-map, length-map, length-take-le, length-drop, get_or-drop}
+use Rattle.std.proofs.lemmas.List.{get_or_append_left, get_or-append_right, get_or-take, length-map, length-take-le, length-drop, get_or-drop}
 use Rattle.std.proofs.Math.Seq.{take-append_seam, drop-append_seam}
 use Rattle.std.proofs.lemmas.List.Elements.{All-map}
-use Rattle.net_cells.specs.declared.netlist.Cell.{Cell}
 use Rattle.net_cells.specs.declared.netlist.Netlist.{Netlist}
 use Rattle.net_cells.specs.declared.netlist.OutPort.{OutPort}
-use Rattle.net_cells.specs.declared.netlist.Port.{Port}
 use Rattle.net_cells.specs.declared.netlist.Reg.{Reg}
-use Rattle.net_cells.specs.Rules.{IsWellFormed, sources, widths, width_at}
-use Rattle.net_cells.specs.Values.{AreValues, next_registers}
+use Rattle.net_cells.specs.Rules.{IsWellFormed, sources, widths}
+use Rattle.net_cells.specs.Values.{AreInputs, AreValues, next_registers}
 use Rattle.net_cells.specs.Loops.{AreGiven, HasOneCycle}
 use Rattle.net_cells.proofs.Cycles.{many, one_cycle}
+use Rattle.net_cells.proofs.Runs.{inputs_given, next_held}
 use Rattle.sim_engine.specs.declared.columns.Columns.{Columns}
 use Rattle.sim_engine.specs.declared.runs.Run.{Run}
 use Rattle.sim_engine.specs.Steps.{evaluated}
 use Rattle.sim_engine.specs.Columns.{step_in}
 use Rattle.sim_engine.specs.Orders.{position}
 use Rattle.sim_engine.specs.Engines.{HaveSettled, IsEngine, RegistersFit, registers_in}
-use Rattle.sim_engine.specs.Running.{AreInputs, RunsCycle, Running}
+use Rattle.sim_engine.specs.Running.{RunsCycle, Running}
 use Rattle.sim_engine.proofs.Agreement.{HoldGiven, HoldRows, net_right, rows_right}
 use Rattle.sim_engine.proofs.Opening.{position_within}
 use Rattle.sim_engine.proofs.Rows.{length-evaluated}
@@ -42,38 +41,15 @@ nexts_exist n c runs first outs nexts values kept e places many_values l f =
     (All-map (λ place. place < length (widths n)) (λ (r : Reg). position (sources n) e.positions r.next) n.regs
     (λ k d b. position_within n e.order e.positions e.is_order e.placed (get_or n.regs k d).next (e.well.registers k d b).0)))
 
-reg_width : (n : Netlist) (k : ℕ) (d : Reg) → k < length n.regs → width_at (widths n) (length n.inputs + k) ≡ (get_or n.regs k d).width
-reg_width n k d b =
-    let ps = map (λ (p : Port). p.width) n.inputs in
-    let rs = map (λ (r : Reg). r.width) n.regs in
-    let cs = map (λ (c : Cell). c.width) n.cells in
-    let l : length ps ≡ length n.inputs = length-map n.inputs (λ (p : Port). p.width) in
-    let m : length rs ≡ length n.regs = length-map n.regs (λ (r : Reg). r.width) in
-    get_or_append_left (ps ++ rs) cs 0 (length n.inputs + k) (omega (arith, length-append ps rs))
-    ∙ ap (λ x. get_or (ps ++ rs) (x + k) 0) (sym l) ∙ get_or-append-add ps rs k 0
-    ∙ get_or-map (λ (r : Reg). r.width) n.regs k d 0 b
-
 -- the values that are given: the inputs, and then what the registers hold
+registers_long : (n : Netlist) (values : List ℕ) → length values ≡ length (widths n) → length (registers_in n values) ≡ length n.regs
+registers_long n values f = length-take-le (length n.regs) (drop (length n.inputs) values) (omega (arith, length-drop (length n.inputs) values, many n))
+
 long_given : (n : Netlist) (inputs values : List ℕ) → length inputs ≡ length n.inputs → length values ≡ length (widths n) → length (inputs ++ registers_in n values) ≡ sources n
-long_given n inputs values e f =
-    let m : length n.regs ≤ length (drop (length n.inputs) values) = omega (arith, length-drop (length n.inputs) values, many n) in
-    let l : length (take (length n.regs) (drop (length n.inputs) values)) ≡ length n.regs = length-take-le (length n.regs) (drop (length n.inputs) values) m in
-    omega (arith, length-append inputs (registers_in n values))
+long_given n inputs values e f = omega (arith, length-append inputs (registers_in n values), registers_long n values f)
 
 are_given : (n : Netlist) (inputs values : List ℕ) → AreInputs n inputs → length values ≡ length (widths n) → RegistersFit n (registers_in n values) → AreGiven n (inputs ++ registers_in n values)
-are_given n inputs values i l r = record {
-  long = long_given n inputs values i.long l;
-  fit = λ net b. elim (cases_lt net (length n.inputs)) [
-    | inl s ↦ let c : net < length inputs = omega (arith, i.long) in
-        subst (λ x. x < 2 ^ width_at (widths n) net) (sym (get_or_append_left inputs (registers_in n values) 0 net c)) (i.fit net c)
-    | inr t ↦
-        let k = net - length n.inputs in
-        let c : k < length (registers_in n values) = omega (arith, i.long, length-append inputs (registers_in n values)) in
-        let e : length n.inputs + k ≡ net = omega arith in
-        subst (λ x. x < 2 ^ width_at (widths n) net) (sym (get_or-append_right inputs (registers_in n values) (length n.inputs) net 0 i.long t))
-        (subst (λ m. slice_index (registers_in n values) k < 2 ^ width_at (widths n) m) e (r k c))
-  ];
-}
+are_given n inputs values i l r = inputs_given n inputs (registers_in n values) i (record { long = registers_long n values l; fit = r })
 
 same_given : (inputs values : List ℕ) (i r net : ℕ) → length inputs ≡ i → net < i + r → get_or (inputs ++ drop i values) net 0 ≡ get_or (inputs ++ take r (drop i values)) net 0
 same_given inputs values i r net e b = elim (cases_lt net i) [
@@ -115,13 +91,7 @@ written_long n values kept l e =
     omega (arith, length-append (take (length n.inputs) values ++ kept) r, length-append (take (length n.inputs) values) kept, length-drop (length n.inputs + length kept) values, many n)
 
 next_fit : (n : Netlist) → IsWellFormed n → (given : List ℕ) (v : ℕ → ℕ) → AreValues n given v → RegistersFit n (next_registers n v)
-next_fit n w given v c k b =
-    let d : Reg = record { width = 0; next = 0 } in
-    let m : k < length n.regs = omega (arith, length-map n.regs (λ (r : Reg). v r.next)) in
-    let reg = get_or n.regs k d in
-    let h = w.registers k d m in
-    subst (λ x. x < 2 ^ width_at (widths n) (length n.inputs + k)) (sym (get_or-map (λ (r : Reg). v r.next) n.regs k d 0 m))
-    (subst (λ x. v reg.next < 2 ^ x) (h.1 ∙ sym (reg_width n k d m)) (c.fits reg.next h.0))
+next_fit n w given v c = (next_held n w given v c).fit
 
 -- What a cycle makes of the values: the inputs are put in, the rows are evaluated, and the registers are moved.
 pub record Cycled (n : Netlist) (c : Columns) (first : ℕ) (nexts values inputs v0 v1 kept v2 : List ℕ) : Type 0 where

@@ -2,10 +2,11 @@ ghost use Rattle.std.specs.Prelude.{◌≡◌, ◌+◌, ◌%◌, ◌^◌, ◌<�
 ghost use Rattle.net_cells.specs.declared.netlist.OutPort.{OutPort};
 ghost use Rattle.net_cells.specs.declared.netlist.Reg.{Reg};
 ghost use Rattle.net_cells.specs.Rules.{IsWellFormed, widths};
+ghost use Rattle.net_cells.specs.Values.{AreInputs};
 ghost use Rattle.net_cells.specs.Loops.{HasNoLoop};
 ghost use Rattle.sim_engine.specs.Columns.{CanEvaluate, step_of};
 ghost use Rattle.sim_engine.specs.Orders.{HasLoop, IsOrder, position};
-ghost use Rattle.sim_engine.specs.Running.{AreInputs, IsFault, RunsCycle, opened};
+ghost use Rattle.sim_engine.specs.Running.{IsFault, RunsCycle, opened};
 ghost use Rattle.sim_engine.specs.Steps.{evaluated};
 
 use crate::columns::{Columns, columns_of};
