@@ -4,7 +4,7 @@ use Rattle.std.specs.List.{list_any}
 use Rattle.std.proofs.lemmas.List.{append_assoc, append-nil, map-append, drop_more, drop_all}
 use Rattle.net_build.specs.declared.types.Wire.{Wire}
 use Rattle.net_build.specs.Built.{Built}
-use Rattle.net_build.specs.Bits.{Always, Shows, highs}
+use Rattle.net_build.specs.Bits.{Always, TellsAll, highs}
 use Rattle.net_build.specs.Folds.{FirstsAreFirst, firsts_of}
 use Rattle.net_build.specs.Values.{Adds, Tells, high}
 
@@ -16,7 +16,7 @@ or_false : (b : Bool) → (b || false) ≡ b
 or_false true = refl
 or_false false = refl
 
-pub shows_adds : (old new : Built) (ws : List Wire) (f : (ℕ → ℕ) → List Bool) → Adds old new → Shows old ws f → Shows new ws f
+pub shows_adds : (old new : Built) (ws : List Wire) (f : (ℕ → ℕ) → List Bool) → Adds old new → TellsAll old ws f → TellsAll new ws f
 shows_adds old new ws f g m = record { at = λ v s. m.at v (g.later.back v s) }
 
 pub highs_push : (v : ℕ → ℕ) (ws more : List Wire) (w : Wire) → more ≡ ws ++ w ∷ [] → highs v more ≡ highs v ws ++ high v w ∷ []
@@ -67,7 +67,7 @@ firsts_more old mid new before seen mine after xs out more k d b g h a t u q = r
 
 pub firsts_all : (b : Built) (before seen : Wire) (xs out : List Wire) (k : ℕ) → length xs ≤ k
     → Always b (λ v. highs v out ++ firsts_of (high v seen) (highs v (drop k xs)) ≡ firsts_of (high v before) (highs v xs))
-    → Shows b out (λ v. firsts_of (high v before) (highs v xs))
+    → TellsAll b out (λ v. firsts_of (high v before) (highs v xs))
 firsts_all b before seen xs out k h a = record {
   at = λ v s. sym (append-nil (highs v out)) ∙ ap (λ zs. highs v out ++ firsts_of (high v seen) (highs v zs)) (sym (drop_all k xs h)) ∙ a.at v s;
 }

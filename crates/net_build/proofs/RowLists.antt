@@ -3,7 +3,7 @@ use Rattle.std.proofs.Common.{◌≡◌, ℕ, zero, suc, ◌+◌, ◌<◌, ◌�
 use Rattle.std.proofs.lemmas.List.{append_assoc, append-nil, map-append, drop_more, drop_all, get_or-map, length-map}
 use Rattle.net_build.specs.declared.types.Wire.{Wire}
 use Rattle.net_build.specs.Built.{Built, IsWire}
-use Rattle.net_build.specs.Bits.{Always, AreRows, Hold, highs, picked, wire_values, zeros}
+use Rattle.net_build.specs.Bits.{Always, AreRows, MeansAll, highs, row_picked, wire_values, zeros}
 use Rattle.net_build.specs.Columns.{AreLong, column_of, no_wire}
 use Rattle.net_build.specs.Folds.{AreOfOneWidth, chosen, first_width}
 use Rattle.net_build.specs.Values.{Adds, Means, high}
@@ -29,21 +29,21 @@ zeros_long : (n : ℕ) → length (zeros n) ≡ n
 zeros_long zero = refl
 zeros_long (suc n) = ap suc (zeros_long n)
 
-pub picked_long : (v : ℕ → ℕ) (n : ℕ) (picks : List Bool) (rows : List (List Wire)) → AreLong n rows → length (picked n picks (map (wire_values v) rows)) ≡ n
+pub picked_long : (v : ℕ → ℕ) (n : ℕ) (picks : List Bool) (rows : List (List Wire)) → AreLong n rows → length (row_picked n picks (map (wire_values v) rows)) ≡ n
 picked_long v n [] rows h = zeros_long n
 picked_long v n (p ∷ picks) [] h = zeros_long n
 picked_long v n (p ∷ picks) (q ∷ rows) h = at p (picked_long v n picks rows (λ k d b. h (suc k) d (omega arith)))
   where
-    at : (b : Bool) → length (picked n picks (map (wire_values v) rows)) ≡ n → length (if b then wire_values v q else picked n picks (map (wire_values v) rows)) ≡ n
+    at : (b : Bool) → length (row_picked n picks (map (wire_values v) rows)) ≡ n → length (if b then wire_values v q else row_picked n picks (map (wire_values v) rows)) ≡ n
     at true e = length-map q (λ (w : Wire). v w.number) ∙ h 0 q (omega arith)
     at false e = e
 
-pub chosen_column : (v : ℕ → ℕ) (n place : ℕ) (picks : List Wire) (rows : List (List Wire)) → place < n → AreLong n rows → chosen v picks (column_of place rows) ≡ get_or (picked n (highs v picks) (map (wire_values v) rows)) place 0
+pub chosen_column : (v : ℕ → ℕ) (n place : ℕ) (picks : List Wire) (rows : List (List Wire)) → place < n → AreLong n rows → chosen v picks (column_of place rows) ≡ get_or (row_picked n (highs v picks) (map (wire_values v) rows)) place 0
 chosen_column v n place [] rows b h = sym (zeros_at n place)
 chosen_column v n place (p ∷ picks) [] b h = sym (zeros_at n place)
 chosen_column v n place (p ∷ picks) (q ∷ rows) b h = at (high v p) (chosen_column v n place picks rows b (λ k d c. h (suc k) d (omega arith)))
   where
-    at : (c : Bool) → chosen v picks (column_of place rows) ≡ get_or (picked n (highs v picks) (map (wire_values v) rows)) place 0 → (if c then v (get_or q place no_wire).number else chosen v picks (column_of place rows)) ≡ get_or (if c then wire_values v q else picked n (highs v picks) (map (wire_values v) rows)) place 0
+    at : (c : Bool) → chosen v picks (column_of place rows) ≡ get_or (row_picked n (highs v picks) (map (wire_values v) rows)) place 0 → (if c then v (get_or q place no_wire).number else chosen v picks (column_of place rows)) ≡ get_or (if c then wire_values v q else row_picked n (highs v picks) (map (wire_values v) rows)) place 0
     at true e = sym (get_or-map (λ (w : Wire). v w.number) q place no_wire 0 (let l = h 0 q (omega arith) in omega (arith, l, b)))
     at false e = e
 
@@ -80,14 +80,14 @@ pub column_long : (rows : List (List Wire)) (ws picks : List Wire) (place : ℕ)
 column_long rows ws picks place e l = ap length e ∙ length-map rows (λ (row : List Wire). get_or row place no_wire) ∙ l
 
 pub row_more : (old new : Built) (widths : List ℕ) (picks : List Wire) (rows : List (List Wire)) (out more ws : List Wire) (w : Wire) (k : ℕ) → k < length widths → ((j : ℕ) (d : List Wire) → j < length rows → length (get_or rows j d) ≡ length widths) → Adds old new
-    → Always old (λ v. wire_values v out ++ drop k (picked (length widths) (highs v picks) (map (wire_values v) rows)) ≡ picked (length widths) (highs v picks) (map (wire_values v) rows))
+    → Always old (λ v. wire_values v out ++ drop k (row_picked (length widths) (highs v picks) (map (wire_values v) rows)) ≡ row_picked (length widths) (highs v picks) (map (wire_values v) rows))
     → ws ≡ column_of k rows
     → Means new w (λ v. chosen v picks ws) → more ≡ out ++ w ∷ []
-    → Always new (λ v. wire_values v more ++ drop (k + 1) (picked (length widths) (highs v picks) (map (wire_values v) rows)) ≡ picked (length widths) (highs v picks) (map (wire_values v) rows))
+    → Always new (λ v. wire_values v more ++ drop (k + 1) (row_picked (length widths) (highs v picks) (map (wire_values v) rows)) ≡ row_picked (length widths) (highs v picks) (map (wire_values v) rows))
 row_more old new widths picks rows out more ws w k b h g a c m e = record {
   at = λ v s.
       let n = length widths in
-      let all = picked n (highs v picks) (map (wire_values v) rows) in
+      let all = row_picked n (highs v picks) (map (wire_values v) rows) in
       let l : k < length all = rw (picked_long v n (highs v picks) rows h) b in
       ap (λ zs. wire_values v zs ++ drop (k + 1) all) e
       ∙ ap (λ zs. zs ++ drop (k + 1) all) (map-append (λ (w : Wire). v w.number) out (w ∷ []))
@@ -98,12 +98,12 @@ row_more old new widths picks rows out more ws w k b h g a c m e = record {
 }
 
 pub row_all : (b : Built) (widths : List ℕ) (picks : List Wire) (rows : List (List Wire)) (out : List Wire) (k : ℕ) → length widths ≤ k → ((j : ℕ) (d : List Wire) → j < length rows → length (get_or rows j d) ≡ length widths)
-    → Always b (λ v. wire_values v out ++ drop k (picked (length widths) (highs v picks) (map (wire_values v) rows)) ≡ picked (length widths) (highs v picks) (map (wire_values v) rows))
-    → Hold b out (λ v. picked (length widths) (highs v picks) (map (wire_values v) rows))
+    → Always b (λ v. wire_values v out ++ drop k (row_picked (length widths) (highs v picks) (map (wire_values v) rows)) ≡ row_picked (length widths) (highs v picks) (map (wire_values v) rows))
+    → MeansAll b out (λ v. row_picked (length widths) (highs v picks) (map (wire_values v) rows))
 row_all b widths picks rows out k l h a = record {
   at = λ v s.
       let n = length widths in
-      let all = picked n (highs v picks) (map (wire_values v) rows) in
+      let all = row_picked n (highs v picks) (map (wire_values v) rows) in
       let m : length all ≤ k = rw (picked_long v n (highs v picks) rows h) l in
       sym (append-nil (wire_values v out)) ∙ ap (λ zs. wire_values v out ++ zs) (sym (drop_all k all m)) ∙ a.at v s;
 }

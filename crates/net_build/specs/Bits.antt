@@ -14,7 +14,7 @@ abbrev pub highs : (ℕ → ℕ) → List Wire → List Bool
 highs v ws = map (high v) ws
 
 -- the same as Tells, of a row of wires of one bit
-pub record Shows (b : Built) (ws : List Wire) (f : (ℕ → ℕ) → List Bool) : Type 0 where
+pub record TellsAll (b : Built) (ws : List Wire) (f : (ℕ → ℕ) → List Bool) : Type 0 where
   pub at : (v : ℕ → ℕ) → Solves b v → highs v ws ≡ f v
 
 -- the values of some wires
@@ -22,7 +22,7 @@ abbrev pub wire_values : (ℕ → ℕ) → List Wire → List ℕ
 wire_values v ws = map (λ (w : Wire). v w.number) ws
 
 -- the same as Means, of a row of wires
-pub record Hold (b : Built) (ws : List Wire) (f : (ℕ → ℕ) → List ℕ) : Type 0 where
+pub record MeansAll (b : Built) (ws : List Wire) (f : (ℕ → ℕ) → List ℕ) : Type 0 where
   pub at : (v : ℕ → ℕ) → Solves b v → wire_values v ws ≡ f v
 
 -- a statement on values, whatever the inputs and registers hold; only what isn't public cites it
@@ -40,7 +40,7 @@ zeros zero = []
 zeros (suc count) = 0 ∷ zeros count
 
 -- the row of the first pick that is 1, and so many zeros where none is
-abbrev pub picked : ℕ → List Bool → List (List ℕ) → List ℕ
-picked count [] rows = zeros count
-picked count (pick ∷ picks) [] = zeros count
-picked count (pick ∷ picks) (row ∷ rows) = if pick then row else picked count picks rows
+abbrev pub row_picked : ℕ → List Bool → List (List ℕ) → List ℕ
+row_picked count [] rows = zeros count
+row_picked count (pick ∷ picks) [] = zeros count
+row_picked count (pick ∷ picks) (row ∷ rows) = if pick then row else row_picked count picks rows

@@ -1,7 +1,7 @@
 ghost use Rattle.std.specs.Prelude.{◌≡◌, ◌<◌, IfOk, not, ◌&&◌, ◌||◌, length};
 ghost use Rattle.std.specs.List.{list_any};
 ghost use Rattle.net_build.specs.Built.{IsBit, IsWire};
-ghost use Rattle.net_build.specs.Bits.{AreBits, Shows, highs};
+ghost use Rattle.net_build.specs.Bits.{AreBits, TellsAll, highs};
 ghost use Rattle.net_build.specs.Folds.{AreOfOneWidth, chosen, first_width, firsts_of};
 ghost use Rattle.net_build.specs.Values.{Adds, Means, Tells, high};
 
@@ -48,7 +48,7 @@ impl Builder {
         ensures long { IfOk result (λ firsts. length firsts.wires ≡ length wires.now) }
         ensures tells { IfOk result (λ firsts. Tells self.new firsts.seen
             (λ v. high v before || list_any (high v) wires.now)) }
-        ensures shows { IfOk result (λ firsts. Shows self.new firsts.wires
+        ensures shows { IfOk result (λ firsts. TellsAll self.new firsts.wires
             (λ v. firsts_of (high v before) (highs v wires.now))) }
     {
         let mut seen = before;

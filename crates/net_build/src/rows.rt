@@ -1,5 +1,5 @@
 ghost use Rattle.std.specs.Prelude.{◌≡◌, ◌<◌, IfOk, length, map};
-ghost use Rattle.net_build.specs.Bits.{AreBits, AreRows, Hold, highs, picked, wire_values};
+ghost use Rattle.net_build.specs.Bits.{AreBits, AreRows, MeansAll, highs, row_picked, wire_values};
 ghost use Rattle.net_build.specs.Columns.{AreLong, column_of};
 ghost use Rattle.net_build.specs.Registers.{AreWires};
 ghost use Rattle.net_build.specs.Values.{Adds};
@@ -39,8 +39,8 @@ impl Builder {
         ensures adds { IfOk result (λ _. Adds self.old self.new) }
         ensures long { IfOk result (λ ws. length ws ≡ length widths.now) }
         ensures wires { IfOk result (λ ws. AreWires self.new widths.now ws) }
-        ensures values { IfOk result (λ ws. Hold self.new ws
-            (λ v. picked (length widths.now) (highs v picks.now) (map (wire_values v) rows.now))) }
+        ensures values { IfOk result (λ ws. MeansAll self.new ws
+            (λ v. row_picked (length widths.now) (highs v picks.now) (map (wire_values v) rows.now))) }
     {
         let mut out: Wires = Items::new(self.alloc());
         for place in 0..widths.len() {
