@@ -3,7 +3,7 @@
 
     bench/engine.py [RUNS]
 
-Each netlist runs 10,000 cycles. Times are processor seconds of the program, the least of some runs, less what
+Times are processor seconds of the program, the least of some runs, less what
 opening takes: the same run with no cycles.
 """
 
@@ -14,7 +14,8 @@ from pathlib import Path
 
 TOP = Path(__file__).resolve().parent.parent
 PROGRAM = TOP / "crates/bench_netlists/out/bench_netlists"
-CYCLES = 10_000
+# cells, and cycles
+NETLISTS = ((5_000, 10_000), (30_000, 2_000), (100_000, 500), (1_000_000, 30))
 
 
 def build():
@@ -37,11 +38,11 @@ def seconds(cells, cycles, runs):
 def main():
     runs = int(sys.argv[1]) if len(sys.argv) > 1 else 5
     build()
-    for cells in (5_000, 10_000):
+    for cells, cycles in NETLISTS:
         opening = seconds(cells, 0, runs)
-        took = seconds(cells, CYCLES, runs) - opening
-        rate = cells * CYCLES / took / 1e6
-        print(f"{cells:>6} cells {CYCLES} cycles {took:7.3f} s {rate:6.0f} million cells a second, opened in {opening:.3f} s")
+        took = seconds(cells, cycles, runs) - opening
+        rate = cells * cycles / took / 1e6
+        print(f"{cells:>7} cells {cycles:>6} cycles {took:7.3f} s {rate:6.0f} million cells a second, opened in {opening:.3f} s")
 
 
 if __name__ == "__main__":

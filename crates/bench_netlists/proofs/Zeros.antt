@@ -4,7 +4,7 @@ use Rattle.std.specs.Prelude.{slice_index}
 use Rattle.std.proofs.lemmas.Nat.{pow_pos}
 use Rattle.net_cells.specs.declared.netlist.Netlist.{Netlist}
 use Rattle.net_cells.specs.Rules.{widths, width_at}
-use Rattle.sim_engine.specs.Running.{AreInputs}
+use Rattle.net_cells.specs.Values.{AreInputs}
 
 fits : (ws : List ℕ) (k : ℕ) → k < length {A = ℕ} (0 ∷ []) → slice_index (0 ∷ []) k < 2 ^ width_at ws k
 fits ws zero b = pow_pos (width_at ws 0)

@@ -31,7 +31,7 @@ use Rattle.net_build.specs.Sound.{Differ, IsWellBuilt}
 use Rattle.net_build.specs.Numbering.{AreNets, Resets, KeepsValues, netlist_by, at_wires, cell_of, cell_of_kind, wire_counts, finished, is_gate, is_input, net_among, net_at, net_of, next_of, out_of, reg_of, reg_of_kind, renamed}
 use Rattle.net_build.proofs.Cells.{cell_whole}
 use Rattle.net_build.proofs.Lists.{all_weaker}
-use Rattle.net_build.proofs.Places.{all_picked, get_behind, get_mapped, none_passes, picked, placed, count_cons}
+use Rattle.net_build.proofs.Places.{all_picked, get_behind, get_mapped, none_passes, row_picked, placed, count_cons}
 use Rattle.net_build.proofs.Nets.{inputs_picked, cell_here, gate_test, gates_in, input_test, inputs_in, keeps_widths, many_cells, many_inputs, many_sources, mapped, net_below, reg_here, reg_test, regs_in}
 use Rattle.net_build.proofs.Renamed.{operands_renamed, rule_renamed, value_renamed}
 
@@ -168,7 +168,7 @@ wire_at b w h = elim ((slice_get_cases b.made w).1) [
 reads_below : (b : Built) → IsWellBuilt b → (net other : ℕ) → Reads (finished b) net other → other < net
 reads_below b s net other r =
     let ms = b.made in
-    let q = picked (cell_of (net_of ms)) (λ (m : Made). is_gate m.item.kind) (λ m. gate_test (net_of ms) m.item.width m.item.kind) ms r.place r.cell r.is in
+    let q = row_picked (cell_of (net_of ms)) (λ (m : Made). is_gate m.item.kind) (λ m. gate_test (net_of ms) m.item.width m.item.kind) ms r.place r.cell r.is in
     let m = q.item in
     let g = cell_gives (net_of ms) m.item.width m.item.kind r.cell q.gives in
     let t : length (take q.place (wire_widths b)) ≤ q.place = omega (arith, length-take q.place (wire_widths b)) in

@@ -15,3 +15,5 @@ pub mod Folded
 pub mod Opened
 pub mod OpenedLists
 pub mod DrivenLists
+pub mod Chains
+pub mod RowLists

@@ -1,4 +1,4 @@
--- The places of picked items.
+-- The places of row_picked items.
 use Rattle.std.proofs.Common.{◌≡◌, ℕ, zero, suc, ◌+◌, ◌<◌, ◌⊎◌, inl, inr, Bool, true, false, cond, List, [], ◌∷◌, ◌++◌, length, map, take, Option, Some, None, is_some, refl, sym, ap, ◌∙◌, arith}
 use Rattle.std.specs.Prelude.{slice_get, slice_index_or, count_by, option_map, All}
 use Rattle.std.specs.List.{cons_option, filter_map}
@@ -15,13 +15,13 @@ skip (Some y) false rest c e = absurd cc
 pub count_cons : {X : Type 0} (p : X → Bool) (x : X) (xs : List X) → count_by p (x ∷ xs) ≡ cond (p x) 1 0 + count_by p xs
 count_cons p x xs = sum_by-append (λ x. cond (p x) 1 0) (x ∷ []) xs ∙ ap (λ n. n + count_by p xs) (let z : 0 + cond (p x) 1 0 ≡ cond (p x) 1 0 = omega arith in z)
 
--- what is picked from a wire stands behind what is picked from the earlier ones
+-- what is row_picked from a wire stands behind what is row_picked from the earlier ones
 pub placed : {X Y : Type 0} (h : X → Option Y) (p : X → Bool) → ((x : X) → is_some (h x) ≡ p x) → (xs : List X) (w : ℕ) (x : X) (y : Y) → slice_get xs w ≡ Some x → h x ≡ Some y → slice_get (filter_map h xs) (count_by p (take w xs)) ≡ Some y
 placed h p s [] w x y e f = absurd cc
 placed h p s (z ∷ xs) zero x y e f = ap (λ o. slice_get (cons_option o (filter_map h xs)) 0) (ap h (let q : z ≡ x = cc in q) ∙ f)
 placed h p s (z ∷ xs) (suc w) x y e f = ap (slice_get (filter_map h (z ∷ xs))) (count_cons p z (take w xs)) ∙ skip (h z) (p z) (filter_map h xs) (count_by p (take w xs)) (s z) ∙ placed h p s xs w x y e f
 
--- where a picked item comes from
+-- where a row_picked item comes from
 pub record PickedFrom {X Y : Type 0} (h : X → Option Y) (p : X → Bool) (xs : List X) (k : ℕ) (y : Y) : Type 0 where
   pub place : ℕ
   pub item : X
@@ -56,14 +56,14 @@ picked_some h p s x xs (suc k) y z e f go =
     let t : p x ≡ true = sym (s x) ∙ ap is_some e in
     record { place = suc q.place; item = q.item; is = q.is; gives = q.gives; at = ap suc q.at ∙ sym (count_cons p x (take q.place xs) ∙ (count_of (p x) (count_by p (take q.place xs))).0 t) }
 
-pub picked : {X Y : Type 0} (h : X → Option Y) (p : X → Bool) → ((x : X) → is_some (h x) ≡ p x) → (xs : List X) (k : ℕ) (y : Y) → slice_get (filter_map h xs) k ≡ Some y → PickedFrom h p xs k y
-picked h p s [] k y e = absurd cc
-picked h p s (x ∷ xs) k y e = elim (option_cases (h x)) [
+pub row_picked : {X Y : Type 0} (h : X → Option Y) (p : X → Bool) → ((x : X) → is_some (h x) ≡ p x) → (xs : List X) (k : ℕ) (y : Y) → slice_get (filter_map h xs) k ≡ Some y → PickedFrom h p xs k y
+row_picked h p s [] k y e = absurd cc
+row_picked h p s (x ∷ xs) k y e = elim (option_cases (h x)) [
   | inl n ↦
-      let q = picked h p s xs k y (none_of (h x) y (filter_map h xs) k n e) in
+      let q = row_picked h p s xs k y (none_of (h x) y (filter_map h xs) k n e) in
       let f : p x ≡ false = sym (s x) ∙ ap is_some n in
       record { place = suc q.place; item = q.item; is = q.is; gives = q.gives; at = q.at ∙ sym (count_cons p x (take q.place xs) ∙ (count_of (p x) (count_by p (take q.place xs))).1 f) }
-  | inr z ↦ picked_some h p s x xs k y z.0 z.1 e (λ j f. picked h p s xs j y f)
+  | inr z ↦ picked_some h p s x xs k y z.0 z.1 e (λ j f. row_picked h p s xs j y f)
 ]
 
 long_of : {Y : Type 0} (o : Option Y) (b : Bool) (rest : List Y) (n : ℕ) → is_some o ≡ b → length rest ≡ n → length (cons_option o rest) ≡ cond b 1 0 + n
@@ -76,10 +76,10 @@ pub many_picked : {X Y : Type 0} (h : X → Option Y) (p : X → Bool) → ((x :
 many_picked h p s [] = refl
 many_picked h p s (x ∷ xs) = long_of (h x) (p x) (filter_map h xs) (count_by p xs) (s x) (many_picked h p s xs) ∙ sym (count_cons p x xs)
 
--- what holds of each wire that gives something holds of all that is picked
+-- what holds of each wire that gives something holds of all that is row_picked
 pub all_picked : {X Y : Type 0} (h : X → Option Y) (p : X → Bool) (P : Y → Type 0) → ((x : X) → is_some (h x) ≡ p x) → (xs : List X) → ((w : ℕ) (x : X) (y : Y) → slice_get xs w ≡ Some x → h x ≡ Some y → P y) → All P (filter_map h xs)
 all_picked h p P s xs go k d b =
-    let q = picked h p s xs k (slice_index_or (filter_map h xs) k d) (slice_get-get_or (filter_map h xs) k d b) in
+    let q = row_picked h p s xs k (slice_index_or (filter_map h xs) k d) (slice_get-get_or (filter_map h xs) k d b) in
     go q.place q.item (slice_index_or (filter_map h xs) k d) q.is q.gives
 
 -- more of the earlier ones pass the test where one between does

@@ -1,14 +1,21 @@
 -- Folds over wires.
-use Rattle.std.specs.Prelude.{◌≡◌, ℕ, ◌<◌, not, ◌&&◌, List, [], ◌∷◌, length, slice_index_or, take, if◌then◌else◌, All}
+use Rattle.std.specs.Prelude.{◌≡◌, ℕ, ◌<◌, Bool, false, not, ◌&&◌, ◌||◌, List, [], ◌∷◌, length, slice_index_or, take, if◌then◌else◌, All}
 use Rattle.std.specs.List.{list_any}
 use Rattle.net_build.specs.declared.types.Wire.{Wire}
 use Rattle.net_build.specs.Built.{Built, IsWire}
-use Rattle.net_build.specs.Values.{Solves, high}
+use Rattle.net_build.specs.Values.{high}
 
--- each of the wires ws is 1 exactly where that of xs is and no earlier one of xs is
-pub record AreFirsts (b : Built) (xs ws : List Wire) : Type 0 where
-  pub at : (v : ℕ → ℕ) → Solves b v → (k : ℕ) (d : Wire) → k < length ws
-      → high v (slice_index_or ws k d) ≡ (high v (slice_index_or xs k d) && not (list_any (high v) (take k xs)))
+-- the bits of a row that are the first one that is true, where one before the row was or wasn't
+abbrev pub firsts_of : Bool → List Bool → List Bool
+firsts_of seen [] = []
+firsts_of seen (bit ∷ bits) = (bit && not seen) ∷ firsts_of (seen || bit) bits
+
+-- Each of the firsts of a row is true exactly where that bit of the row is, and none before it.
+abbrev pub FirstsAreFirst : Type 0
+FirstsAreFirst =
+    (seen : Bool) (bits : List Bool) (k : ℕ) → k < length bits
+    → slice_index_or (firsts_of seen bits) k false
+    ≡ (slice_index_or bits k false && not (seen || list_any (λ bit. bit) (take k bits)))
 
 -- the value of the first pick that is 1, and 0 where none is
 abbrev pub chosen : (ℕ → ℕ) → List Wire → List Wire → ℕ

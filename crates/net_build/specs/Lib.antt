@@ -4,3 +4,5 @@ pub mod Sound
 pub mod Numbering
 pub mod Folds
 pub mod Registers
+pub mod Bits
+pub mod Columns

@@ -5,9 +5,12 @@ mod bits;
 mod builder;
 mod finish;
 mod folds;
+mod laws;
 mod registers;
+mod rows;
 mod types;
 
 pub use bits::{both, either, inverse, low};
 pub use builder::Builder;
-pub use types::{Item, Kind, Made, Wire, Wires};
+pub use laws::firsts_law;
+pub use types::{Firsts, Item, Kind, Made, Wire, Wires};

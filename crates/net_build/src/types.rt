@@ -1,3 +1,5 @@
+ghost use Rattle.std.specs.Prelude.{◌≡◌};
+
 use dip_lists::Items;
 use dip_sets::Name;
 use net_cells::CellOp;
@@ -13,6 +15,25 @@ pub struct Wire {
 
 /// Wires.
 pub type Wires = Items<Wire>;
+
+/// The firsts of a row of wires of one bit.
+#[derive(Debug, Drop)]
+pub struct Firsts {
+    /// A wire for each: 1 exactly where that one is and none before it.
+    pub wires: Wires,
+    /// 1 exactly where one of them is, or one before the row was.
+    pub seen: Wire,
+}
+
+impl Firsts {
+    /// The wires alone.
+    pub fn into_wires(self) -> Wires
+        ensures { result ≡ self.wires }
+    {
+        let Firsts { wires, .. } = self;
+        wires
+    }
+}
 
 /// What gives a wire its value.
 #[derive(Debug, Drop)]

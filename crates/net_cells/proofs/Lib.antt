@@ -4,3 +4,4 @@ pub mod Nets
 pub mod Operators
 pub mod Paths
 pub mod Cycles
+pub mod Runs

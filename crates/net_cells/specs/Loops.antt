@@ -1,11 +1,11 @@
 -- Which nets depend on which through cells, and that a netlist without a loop has exactly one assignment of values.
-use Rattle.std.specs.Prelude.{◌≡◌, ℕ, ◌+◌, ◌^◌, ◌<◌, List, [], ◌∷◌, length, Some, slice_get, slice_index, Contains}
+use Rattle.std.specs.Prelude.{◌≡◌, ℕ, ◌+◌, ◌^◌, ◌<◌, List, [], ◌∷◌, length, Some, slice_get, slice_index, All, Contains}
 use Rattle.net_cells.specs.declared.netlist.Cell.{Cell}
 use Rattle.net_cells.specs.declared.netlist.CellOp.{CellOp}
 use Rattle.net_cells.specs.declared.netlist.CellOp.TheVariants.{Const, Not, And, Or, Xor, Add, Sub, Eq, Less, Mux, Concat, Select}
 use Rattle.net_cells.specs.declared.netlist.Netlist.{Netlist}
 use Rattle.net_cells.specs.Rules.{IsWellFormed, sources, widths, width_at}
-use Rattle.net_cells.specs.Values.{AreValues}
+use Rattle.net_cells.specs.Values.{AreInputs, AreValues, IsRunFrom, first_registers}
 
 -- the nets that an operator reads
 abbrev pub operands : CellOp → List ℕ
@@ -58,3 +58,22 @@ pub record HasOneCycle (n : Netlist) (given : List ℕ) : Type 0 where
 abbrev pub EachCycleIsOne : Type 0
 EachCycleIsOne =
     (n : Netlist) → IsWellFormed n → HasNoLoop n → (given : List ℕ) → AreGiven n given → HasOneCycle n given
+
+-- the same values of each net in each of as many cycles
+abbrev pub AreSame : Netlist → List (ℕ → ℕ) → List (ℕ → ℕ) → Type 0
+AreSame n [] [] = Unit {0}
+AreSame n [] (u ∷ us) = ⊥
+AreSame n (v ∷ vs) [] = ⊥
+AreSame n (v ∷ vs) (u ∷ us) = ((net : ℕ) → net < length (widths n) → v net ≡ u net) × AreSame n vs us
+
+-- There is a run with these inputs, and no other.
+pub record HasOneRun (n : Netlist) (registers : List ℕ) (inputs : List (List ℕ)) : Type 0 where
+  pub values : List (ℕ → ℕ)
+  pub is : IsRunFrom n registers inputs values
+  pub only : (others : List (ℕ → ℕ)) → IsRunFrom n registers inputs others → AreSame n others values
+
+-- Where no net depends on itself through cells, there is exactly one run from the start for inputs that fit.
+abbrev pub EachRunIsOne : Type 0
+EachRunIsOne =
+    (n : Netlist) → IsWellFormed n → HasNoLoop n → (inputs : List (List ℕ)) → All (AreInputs n) inputs
+    → HasOneRun n (first_registers n) inputs

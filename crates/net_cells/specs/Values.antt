@@ -41,18 +41,20 @@ next_registers n v = map (λ (r : Reg). v r.next) n.regs
 abbrev pub first_registers : Netlist → List ℕ
 first_registers n = map (λ (r : Reg). 0) n.regs
 
--- The values of each cycle of a run, from what the registers hold at its start and the inputs of each cycle.
+-- one value for each input, of its width
+pub record AreInputs (n : Netlist) (inputs : List ℕ) : Type 0 where
+  pub long : length inputs ≡ length n.inputs
+  pub fit : (k : ℕ) → k < length inputs → slice_index inputs k < 2 ^ width_at (widths n) k
+
+-- The values of each cycle of a run, from what the registers hold at its start and the inputs of each cycle, of which
+-- there are as many as the netlist has.
 abbrev pub IsRunFrom : Netlist → List ℕ → List (List ℕ) → List (ℕ → ℕ) → Type 0
 IsRunFrom n registers [] [] = Unit {0}
 IsRunFrom n registers [] (v ∷ vs) = ⊥
 IsRunFrom n registers (i ∷ is) [] = ⊥
-IsRunFrom n registers (i ∷ is) (v ∷ vs) = AreValues n (i ++ registers) v × IsRunFrom n (next_registers n v) is vs
+IsRunFrom n registers (i ∷ is) (v ∷ vs) =
+    (length i ≡ length n.inputs) × AreValues n (i ++ registers) v × IsRunFrom n (next_registers n v) is vs
 
 -- The values of each cycle of a run that starts with all registers at 0.
 abbrev pub IsRun : Netlist → List (List ℕ) → List (ℕ → ℕ) → Type 0
 IsRun n inputs values = IsRunFrom n (first_registers n) inputs values
-
--- What the registers hold after cycles with these values.
-abbrev pub registers_after : Netlist → List ℕ → List (ℕ → ℕ) → List ℕ
-registers_after n registers [] = registers
-registers_after n registers (v ∷ vs) = registers_after n (next_registers n v) vs

@@ -6,7 +6,7 @@ mod name_table;
 mod netlist;
 mod rules;
 
-pub use laws::values_law;
+pub use laws::{runs_law, values_law};
 pub use name_table::NameTable;
 pub use netlist::{
     Cell, CellList, CellOp, Netlist, OutPort, OutPorts, Port, Ports, Reg, Regs, WIDTH_LIMIT,

@@ -6,9 +6,9 @@ use std::alloc::Global;
 use std::collections::BTreeMap;
 use std::marker::Model;
 
-/// Numbers under names of any bytes. Contracts see the names with their numbers, in the order of bytes. Adding
-/// and finding take comparisons of the order of the logarithm of how many names there are, whatever names
-/// they are.
+/// Numbers under names of any bytes. Contracts see the names with their numbers, in the order of bytes.
+/// Adding and finding take comparisons of the order of the logarithm of how many names there are, whatever
+/// names they are.
 #[derive(Drop)]
 pub struct NameTable {
     alloc: Global,

@@ -4,7 +4,7 @@ ghost use Rattle.net_build.specs.Values.{Adds};
 
 use crate::described::name;
 use dip_lists::Memory;
-use net_build::{Builder, Wire};
+use net_build::{Builder, Wire, low};
 use net_cells::Netlist;
 use std::alloc::Global;
 
@@ -142,7 +142,8 @@ fn add_folds(builder: &mut Builder, x: Wire, y: Wire) -> Result<(), Memory>
     ensures adds { IfOk result (λ _. Adds builder.old builder.new) }
 {
     builder.any(&[x, y])?;
-    builder.first(&[y, x])?;
+    let none = low(builder)?;
+    builder.firsts(none, &[y, x])?;
     builder.choose(&[x, y], &[y, x])?;
     Ok(())
 }

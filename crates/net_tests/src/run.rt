@@ -1,6 +1,6 @@
 ghost use Rattle.std.specs.Prelude.{◌≡◌, ◌↔◌, IsTrue, ◌^◌, ◌<◌, length};
 ghost use Rattle.net_cells.specs.Rules.{width_at, widths};
-ghost use Rattle.sim_engine.specs.Running.{AreInputs};
+ghost use Rattle.net_cells.specs.Values.{AreInputs};
 
 use net_cells::{Netlist, well_formed};
 use sim_engine::{Engine, EngineFault};

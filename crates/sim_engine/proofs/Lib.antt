@@ -1,10 +1,12 @@
-pub mod Agreement
-pub mod StepValues
 pub mod Walking
 pub mod Widths
 pub mod Acyclic
 pub mod Reaching
 pub mod Least
-pub mod Stepping
+pub mod Rows
+pub mod Placed
+pub mod Columned
+pub mod StepValues
+pub mod Agreement
 pub mod Opening
-pub mod Runs
+pub mod Stepping

@@ -99,42 +99,104 @@ sources_some n w = let b = slice_get_within n.inputs 0 _ w.reset in omega arith
 open_loops : (n : Netlist) (marks : List Mark) (order rest : List ℕ) (top place : ℕ) → IsWalk n marks order (rest ++ top ∷ []) → Reads n (sources n + top) (sources n + place) → mark_at marks place ≡ Open → HasLoop n
 open_loops n marks order rest top place s r o = (sources n + place, depends_more n rest top place (sources n + place) s.path r (s.opened place o))
 
-opening : (n : Netlist) (marks : List Mark) (order rest : List ℕ) (top place : ℕ) → IsWalk n marks order (rest ++ top ∷ []) → Reads n (sources n + top) (sources n + place) → place < length n.cells → IsWalk n (set marks place Open) order (rest ++ top ∷ [] ++ place ∷ [])
-opening n marks order rest top place s r b = record {
-  long = length-set marks place Open ∙ s.long;
-  placed = All-push (λ q. q < length n.cells) (rest ++ top ∷ []) place s.placed b;
-  opened = λ q m. elim (cases_eq q place) [
-    | inl e ↦ subst (λ x. Contains (rest ++ top ∷ [] ++ place ∷ []) x) (sym e) (Contains-push (rest ++ top ∷ []) place)
-    | inr d ↦ Contains-append_left (rest ++ top ∷ []) (place ∷ []) q (s.opened q (sym (get_or-set_other marks place q Open New d) ∙ m))
-  ];
-  finished = λ q m. elim (cases_eq q place) [
-    | inl e ↦ let k : Open ≡ Done = sym (get_or-set_same marks place Open New (omega (arith, s.long))) ∙ sym (ap (λ x. get_or (set marks place Open) x New) e) ∙ m in absurd cc
-    | inr d ↦ s.finished q (sym (get_or-set_other marks place q Open New d) ∙ m)
-  ];
-  path = all_pairs_push (λ a b. DependsOn n (sources n + a) (sources n + b)) (rest ++ top ∷ []) place s.path (λ k d l. depends_more n rest top (get_or (rest ++ top ∷ []) k d) (sources n + place) s.path r (k, l, refl_at (rest ++ top ∷ []) k d l));
-  exist = s.exist;
-  ordered = s.ordered;
-}
+-- a cell with another mark is another cell
+other_mark : (marks : List Mark) (a b : ℕ) (m : Mark) → mark_at marks a ≡ m → (mark_at marks b ≡ m → ⊥) → a ≢ b
+other_mark marks a b m here there e = there (sym (ap (mark_at marks) e) ∙ here)
 
-closing : (n : Netlist) (marks : List Mark) (order rest : List ℕ) (top : ℕ) → IsWalk n marks order (rest ++ top ∷ []) → top < length n.cells → IsReady n order top → IsWalk n (set marks top Done) (order ++ top ∷ []) rest
-closing n marks order rest top s b r = record {
-  long = length-set marks top Done ∙ s.long;
-  placed = all_front (λ q. q < length n.cells) rest top s.placed;
-  opened = λ q m. elim (cases_eq q top) [
-    | inl e ↦ let k : Done ≡ Open = sym (get_or-set_same marks top Done New (omega (arith, s.long))) ∙ sym (ap (λ x. get_or (set marks top Done) x New) e) ∙ m in absurd cc
-    | inr d ↦ elim (Contains-push_cases rest top q (s.opened q (sym (get_or-set_other marks top q Done New d) ∙ m))) [
-      | inl c ↦ c
-      | inr e ↦ absurd (d (sym e))
-    ]
-  ];
-  finished = λ q m. elim (cases_eq q top) [
-    | inl e ↦ subst (λ x. Contains (order ++ top ∷ []) x) (sym e) (Contains-push order top)
-    | inr d ↦ Contains-append_left order (top ∷ []) q (s.finished q (sym (get_or-set_other marks top q Done New d) ∙ m))
-  ];
-  path = pairs_front (λ a b. DependsOn n (sources n + a) (sources n + b)) rest top s.path;
-  exist = All-push (λ q. q < length n.cells) order top s.exist b;
-  ordered = order_push n [] order top s.ordered r;
-}
+opening : (n : Netlist) (marks : List Mark) (order rest : List ℕ) (top place : ℕ) → IsWalk n marks order (rest ++ top ∷ []) → Reads n (sources n + top) (sources n + place) → place < length n.cells → mark_at marks place ≡ New → IsWalk n (set marks place Open) order (rest ++ top ∷ [] ++ place ∷ [])
+opening n marks order rest top place s r b new =
+    let not_open : mark_at marks place ≡ Open → ⊥ = λ e. let k : New ≡ Open = sym new ∙ e in absurd cc in
+    let not_done : mark_at marks place ≡ Done → ⊥ = λ e. let k : New ≡ Done = sym new ∙ e in absurd cc in
+    let other : (k d : ℕ) → k < length (rest ++ top ∷ []) → get_or (rest ++ top ∷ []) k d ≢ place = λ k d l. other_mark marks (get_or (rest ++ top ∷ []) k d) place Open (s.marked k d l) not_open in
+    record {
+      long = length-set marks place Open ∙ s.long;
+      placed = All-push (λ q. q < length n.cells) (rest ++ top ∷ []) place s.placed b;
+      opened = λ q m. elim (cases_eq q place) [
+        | inl e ↦ subst (λ x. Contains (rest ++ top ∷ [] ++ place ∷ []) x) (sym e) (Contains-push (rest ++ top ∷ []) place)
+        | inr d ↦ Contains-append_left (rest ++ top ∷ []) (place ∷ []) q (s.opened q (sym (get_or-set_other marks place q Open New d) ∙ m))
+      ];
+      finished = λ q m. elim (cases_eq q place) [
+        | inl e ↦ let k : Open ≡ Done = sym (get_or-set_same marks place Open New (omega (arith, s.long))) ∙ sym (ap (λ x. get_or (set marks place Open) x New) e) ∙ m in absurd cc
+        | inr d ↦ s.finished q (sym (get_or-set_other marks place q Open New d) ∙ m)
+      ];
+      marked = All-push (λ q. mark_at (set marks place Open) q ≡ Open) (rest ++ top ∷ []) place
+          (λ k d l. get_or-set_other marks place (get_or (rest ++ top ∷ []) k d) Open New (other k d l) ∙ s.marked k d l)
+          (get_or-set_same marks place Open New (omega (arith, s.long)));
+      apart = all_pairs_push (λ a b. a ≢ b) (rest ++ top ∷ []) place s.apart other;
+      path = all_pairs_push (λ a b. DependsOn n (sources n + a) (sources n + b)) (rest ++ top ∷ []) place s.path (λ k d l. depends_more n rest top (get_or (rest ++ top ∷ []) k d) (sources n + place) s.path r (k, l, refl_at (rest ++ top ∷ []) k d l));
+      exist = s.exist;
+      ordered = s.ordered;
+      listed = λ q c. get_or-set_other marks place q Open New (other_mark marks q place Done (s.listed q c) not_done) ∙ s.listed q c;
+      once = s.once;
+    }
+
+-- A search that is about to close a cell, which stands on the stack no more.
+record IsClosing (n : Netlist) (marks : List Mark) (order rest : List ℕ) (top : ℕ) : Type 0 where
+  long : length marks ≡ length n.cells
+  placed : All (λ q. q < length n.cells) rest
+  opened : (q : ℕ) → q ≢ top → mark_at marks q ≡ Open → Contains rest q
+  finished : (q : ℕ) → mark_at marks q ≡ Done → Contains order q
+  marked : All (λ q. mark_at marks q ≡ Open) rest
+  others : All (λ q. q ≢ top) rest
+  apart : AllPairs (λ a b. a ≢ b) rest
+  path : AllPairs (λ a b. DependsOn n (sources n + a) (sources n + b)) rest
+  exist : All (λ q. q < length n.cells) order
+  ordered : AreReadyInTurn n [] order
+  listed : (q : ℕ) → Contains order q → mark_at marks q ≡ Done
+  once : AllPairs (λ a b. a ≢ b) order
+  not_done : mark_at marks top ≡ Done → ⊥
+
+closing : (n : Netlist) (marks : List Mark) (order rest : List ℕ) (top : ℕ) → IsClosing n marks order rest top → top < length n.cells → IsReady n order top → IsWalk n (set marks top Done) (order ++ top ∷ []) rest
+closing n marks order rest top s b r =
+    let kept : (q : ℕ) → q ≢ top → mark_at (set marks top Done) q ≡ mark_at marks q = λ q d. get_or-set_other marks top q Done New d in
+    let here : mark_at (set marks top Done) top ≡ Done = get_or-set_same marks top Done New (omega (arith, s.long)) in
+    record {
+      long = length-set marks top Done ∙ s.long;
+      placed = s.placed;
+      opened = λ q m. elim (cases_eq q top) [
+        | inl e ↦ let k : Done ≡ Open = sym here ∙ sym (ap (mark_at (set marks top Done)) e) ∙ m in absurd cc
+        | inr d ↦ s.opened q d (sym (kept q d) ∙ m)
+      ];
+      finished = λ q m. elim (cases_eq q top) [
+        | inl e ↦ subst (λ x. Contains (order ++ top ∷ []) x) (sym e) (Contains-push order top)
+        | inr d ↦ Contains-append_left order (top ∷ []) q (s.finished q (sym (kept q d) ∙ m))
+      ];
+      marked = λ k d l. kept (get_or rest k d) (s.others k d l) ∙ s.marked k d l;
+      apart = s.apart;
+      path = s.path;
+      exist = All-push (λ q. q < length n.cells) order top s.exist b;
+      ordered = order_push n [] order top s.ordered r;
+      listed = λ q c. elim (Contains-push_cases order top q c) [
+        | inl k ↦ kept q (other_mark marks q top Done (s.listed q k) s.not_done) ∙ s.listed q k
+        | inr e ↦ ap (mark_at (set marks top Done)) (sym e) ∙ here
+      ];
+      once = all_pairs_push (λ a b. a ≢ b) order top s.once (λ k d l. other_mark marks (get_or order k d) top Done (s.listed (get_or order k d) (k, l, refl_at order k d l)) s.not_done);
+    }
+
+-- the cell at the top of the stack is about to be closed
+closing_top : (n : Netlist) (marks : List Mark) (order rest : List ℕ) (top : ℕ) → IsWalk n marks order (rest ++ top ∷ []) → IsClosing n marks order rest top
+closing_top n marks order rest top s =
+    let last : (d : ℕ) → get_or (rest ++ top ∷ []) (length rest) d ≡ top = λ d. get_or_push rest top d (length rest) refl in
+    let long : length (rest ++ top ∷ []) ≡ length rest + 1 = length_push rest top in
+    let open_top : mark_at marks top ≡ Open = ap (mark_at marks) (sym (last 0)) ∙ s.marked (length rest) 0 (omega arith) in
+    record {
+      long = s.long;
+      placed = all_front (λ q. q < length n.cells) rest top s.placed;
+      opened = λ q d m. elim (Contains-push_cases rest top q (s.opened q m)) [
+        | inl c ↦ c
+        | inr e ↦ absurd (d (sym e))
+      ];
+      finished = s.finished;
+      marked = all_front (λ q. mark_at marks q ≡ Open) rest top s.marked;
+      others = λ k d l e. s.apart k (length rest) d l (omega arith) (get_or_append_left rest (top ∷ []) d k l ∙ e ∙ sym (last d));
+      apart = pairs_front (λ a b. a ≢ b) rest top s.apart;
+      path = pairs_front (λ a b. DependsOn n (sources n + a) (sources n + b)) rest top s.path;
+      exist = s.exist;
+      ordered = s.ordered;
+      listed = s.listed;
+      once = s.once;
+      not_done = λ e. let k : Open ≡ Done = sym open_top ∙ e in absurd cc;
+    }
 
 left_opened : (marks : List Mark) (rest : List ℕ) (top place : ℕ) → place < length marks → mark_at marks place ≡ New → left (set marks place Open) (rest ++ top ∷ [] ++ place ∷ []) ≤ left marks rest
 left_opened marks rest top place b e =
@@ -174,7 +236,7 @@ goes_on n old new top place s r m e f g =
     let b = r.exists in
     let c : place < length old.marks.items = omega (arith, s.long) in
     record {
-      stands = stands_as n new _ _ _ e f g (opening n old.marks.items old.order.items old.stack.items top place s r.reads b);
+      stands = stands_as n new _ _ _ e f g (opening n old.marks.items old.order.items old.stack.items top place s r.reads b m);
       keeps = keeps_as old.marks.items _ _ e (keeps_set old.marks.items place Open c (λ k. absurd cc));
       less = left_as _ _ _ _ _ e g (left_opened old.marks.items old.stack.items top place c m);
     }
@@ -198,7 +260,7 @@ goes_back n old new top s d e f g =
     let b : top < length n.cells = top_exists n old.stack.items top s.placed in
     let c : top < length old.marks.items = omega (arith, s.long) in
     record {
-      stands = stands_as n new _ _ _ e f g (closing n old.marks.items old.order.items old.stack.items top s b r);
+      stands = stands_as n new _ _ _ e f g (closing n old.marks.items old.order.items old.stack.items top (closing_top n old.marks.items old.order.items old.stack.items top s) b r);
       keeps = keeps_as old.marks.items _ _ e (keeps_set old.marks.items top Done c (λ k. absurd cc));
       less = left_as _ _ _ _ _ e g (left_closed old.marks.items old.stack.items top c);
     }
@@ -250,6 +312,7 @@ order_found n walk s e f = record {
   exist = s.exist;
   ordered = s.ordered;
   every = λ place b. s.finished place (not_open (mark_at walk.marks.items place) (f place b) (λ k. none_open walk.stack.items place e (s.opened place k)));
+  once = s.once;
 }
 
 -- all three exist, where the operands do and there is a net
@@ -267,20 +330,30 @@ three_below (op.Mux c x y) m p h = (h.0, h.1.0, h.1.1.0)
 three_below (op.Concat x y) m p h = (h.0, h.1.0, p)
 three_below (op.Select x hi lo) m p h = (h.0, p, p)
 
-alone : (n : Netlist) (marks : List Mark) (order : List ℕ) (place : ℕ) → IsWalk n marks order [] → place < length n.cells → IsWalk n marks order (place ∷ [])
-alone n marks order place s b = record {
+-- a new cell is about to be closed, while none is open
+closing_new : (n : Netlist) (marks : List Mark) (order : List ℕ) (place : ℕ) → IsWalk n marks order [] → mark_at marks place ≡ New → IsClosing n marks order [] place
+closing_new n marks order place s new = record {
   long = s.long;
-  placed = All-push (λ q. q < length n.cells) [] place s.placed b;
-  opened = λ q m. let k = (s.opened q m).1 in absurd (omega arith);
+  placed = s.placed;
+  opened = λ q d m. s.opened q m;
   finished = s.finished;
-  path = λ i j d l m. absurd (omega arith);
+  marked = s.marked;
+  others = λ k d l. absurd (omega arith);
+  apart = s.apart;
+  path = s.path;
   exist = s.exist;
   ordered = s.ordered;
+  listed = s.listed;
+  once = s.once;
+  not_done = λ e. let k : New ≡ Done = sym new ∙ e in absurd cc;
 }
 
 -- a ready cell is done at once
-pub offered : (n : Netlist) (old new : Walk) (place : ℕ) → Stands n old → old.stack.items ≡ [] → place < length n.cells → HasAllDone n old place → new.marks.items ≡ set old.marks.items place Done → new.order.items ≡ old.order.items ++ place ∷ [] → new.stack.items ≡ old.stack.items → IsIdle n new
-offered n old new place s i b d e f g =
-    let a : IsWalk n old.marks.items old.order.items (place ∷ []) = alone n old.marks.items old.order.items place (subst (λ (xs : List ℕ). IsWalk n old.marks.items old.order.items xs) i s) b in
-    let h : IsWalk n old.marks.items old.order.items (old.stack.items ++ place ∷ []) = subst (λ (xs : List ℕ). IsWalk n old.marks.items old.order.items (xs ++ place ∷ [])) (sym i) a in
-    record { stands = (goes_back n old new place h d e f g).stands; idle = g ∙ i }
+pub offered : (n : Netlist) (old new : Walk) (place : ℕ) → Stands n old → old.stack.items ≡ [] → place < length n.cells → mark_at old.marks.items place ≡ New → HasAllDone n old place → new.marks.items ≡ set old.marks.items place Done → new.order.items ≡ old.order.items ++ place ∷ [] → new.stack.items ≡ old.stack.items → IsIdle n new
+offered n old new place s i b m d e f g =
+    let w : IsWalk n old.marks.items old.order.items [] = subst (λ (xs : List ℕ). IsWalk n old.marks.items old.order.items xs) i s in
+    let r = ready_from_done n old old.stack.items place s d in
+    record {
+      stands = stands_as n new _ _ _ e f (g ∙ i) (closing n old.marks.items old.order.items [] place (closing_new n old.marks.items old.order.items place w m) b r);
+      idle = g ∙ i;
+    }

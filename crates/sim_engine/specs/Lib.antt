@@ -1,4 +1,5 @@
 pub mod Steps
+pub mod Columns
 pub mod Orders
 pub mod Walks
 pub mod Running

@@ -1,8 +1,7 @@
 -- What an engine is and does: the netlist, what its registers hold, and one cycle.
-use Rattle.std.specs.Prelude.{◌≡◌, ℕ, ◌^◌, ◌<◌, ◌≤◌, List, ◌++◌, length, map, slice_index}
+use Rattle.std.specs.Prelude.{◌≡◌, ℕ, ◌≤◌, List, ◌++◌, map}
 use Rattle.net_cells.specs.declared.netlist.Netlist.{Netlist}
 use Rattle.net_cells.specs.declared.netlist.OutPort.{OutPort}
-use Rattle.net_cells.specs.Rules.{widths, width_at}
 use Rattle.net_cells.specs.Values.{first_registers, next_registers}
 use Rattle.net_cells.specs.Loops.{DependsOn, HasOneCycle}
 use Rattle.sim_engine.specs.declared.fault.EngineFault.{EngineFault}
@@ -17,11 +16,6 @@ pub record Running : Type 0 where
 pub record IsLeastLoop (n : Netlist) (net : ℕ) : Type 0 where
   pub depends : DependsOn n net net
   pub least : (other : ℕ) → DependsOn n other other → net ≤ other
-
--- one value for each input, of its width
-pub record AreInputs (n : Netlist) (inputs : List ℕ) : Type 0 where
-  pub long : length inputs ≡ length n.inputs
-  pub fit : (k : ℕ) → k < length inputs → slice_index inputs k < 2 ^ width_at (widths n) k
 
 -- One cycle: there is exactly one assignment for these inputs and what the registers hold. The outputs are its values
 -- of their nets, and afterwards the registers hold its values of their next nets.

@@ -1,6 +1,6 @@
 -- What the engine computes: a cell as a step of the machine, and the values of all nets after some steps.
 -- Only functions that aren't public cite it.
-use Rattle.std.specs.Prelude.{ℕ, ◌+◌, ◌-◌, ◌*◌, ◌/◌, ◌%◌, ◌^◌, ◌<◌, nat_lt, ◌==◌, if◌then◌else◌, List, [], ◌∷◌, slice_index, slice_set, bit_and, bit_or, bit_xor}
+use Rattle.std.specs.Prelude.{◌≢◌, ℕ, zero, suc, ◌+◌, ◌-◌, ◌*◌, ◌/◌, ◌%◌, ◌^◌, ◌<◌, nat_lt, ◌==◌, if◌then◌else◌, List, [], ◌∷◌, slice_index, slice_set, bit_and, bit_or, bit_xor}
 use Rattle.net_cells.specs.declared.netlist.CellOp.{CellOp}
 use Rattle.net_cells.specs.declared.netlist.CellOp.TheVariants as op
 use Rattle.net_cells.specs.Rules.{width_at}
@@ -38,57 +38,65 @@ operator_kind (op.Mux c x y) = Mux
 operator_kind (op.Concat x y) = Concat
 operator_kind (op.Select x hi lo) = Select
 
--- a constant's value, and the greatest number of so many bits for all other operators
-abbrev pub bits_of : ℕ → CellOp → ℕ
-bits_of width (op.Const value) = value
-bits_of width _ = 2 ^ width - 1
-
 -- by how many bits an operand is moved
 abbrev pub shift_of : List ℕ → CellOp → ℕ
 shift_of ws (op.Concat x y) = width_at ws y
 shift_of ws (op.Select x hi lo) = lo
 shift_of ws _ = 0
 
--- the step that sets a net to the value of an operator of so many bits
-abbrev pub step_for : List ℕ → ℕ → ℕ → CellOp → Step
-step_for ws net width o = record {
+-- the low 32 bits of a constant's value, and for another operator what is given
+abbrev pub low_part : CellOp → ℕ → ℕ
+low_part (op.Const value) place = value % 2 ^ 32
+low_part _ place = place
+
+-- the high 32 bits of a constant's value, and for another operator what is given
+abbrev pub high_part : CellOp → ℕ → ℕ
+high_part (op.Const value) place = value / 2 ^ 32
+high_part _ place = place
+
+-- the step of an operator of so many bits, whose operands stand at these places
+abbrev pub step_for : List ℕ → ℕ → CellOp → ℕ → ℕ → ℕ → Step
+step_for ws width o x y z = record {
+  x = low_part o x;
+  y = high_part o y;
+  z = z;
+  shift = shift_of ws o % 64;
+  short = 64 - width;
   kind = operator_kind o;
-  shift = shift_of ws o;
-  bits = bits_of width o;
-  net = net;
-  x = slice_index (three o) 0;
-  y = slice_index (three o) 1;
-  z = slice_index (three o) 2;
 }
 
--- The value that a step gives its net, in 64 bits, where its operands have these.
-abbrev pub kind_value : Kind → ℕ → ℕ → ℕ → ℕ → ℕ → ℕ
-kind_value Const bits shift x y z = bits
-kind_value Not bits shift x y z = bits - x
-kind_value And bits shift x y z = bit_and x y
-kind_value Or bits shift x y z = bit_or x y
-kind_value Xor bits shift x y z = bit_xor x y
-kind_value Add bits shift x y z = bit_and ((x + y) % 2 ^ 64) bits
-kind_value Sub bits shift x y z = bit_and ((x + (2 ^ 64 - y)) % 2 ^ 64) bits
-kind_value Eq bits shift x y z = if x == y then 1 else 0
-kind_value Less bits shift x y z = if nat_lt x y then 1 else 0
-kind_value Mux bits shift x y z = if x == 1 then y else z
-kind_value Concat bits shift x y z = bit_or (x * 2 ^ (shift % 64) % 2 ^ 64) y
-kind_value Select bits shift x y z = bit_and (x / 2 ^ (shift % 64)) bits
+-- the greatest number of 64 bits, less so many
+abbrev pub mask : ℕ → ℕ
+mask short = (2 ^ 64 - 1) / 2 ^ (short % 64)
 
--- the value that a step gives its net, from the values of all nets
+-- The value of a step of this kind, in 64 bits, where its operands have these. A constant has its own.
+abbrev pub kind_value : Kind → Step → ℕ → ℕ → ℕ → ℕ
+kind_value Const s x y z = s.y * 2 ^ 32 + s.x
+kind_value Not s x y z = mask s.short - x
+kind_value And s x y z = bit_and x y
+kind_value Or s x y z = bit_or x y
+kind_value Xor s x y z = bit_xor x y
+kind_value Add s x y z = bit_and ((x + y) % 2 ^ 64) (mask s.short)
+kind_value Sub s x y z = bit_and ((x + (2 ^ 64 - y)) % 2 ^ 64) (mask s.short)
+kind_value Eq s x y z = if x == y then 1 else 0
+kind_value Less s x y z = if nat_lt x y then 1 else 0
+kind_value Mux s x y z = if x == 1 then y else z
+kind_value Concat s x y z = bit_or (x * 2 ^ (s.shift % 64) % 2 ^ 64) y
+kind_value Select s x y z = bit_and (x / 2 ^ (s.shift % 64)) (mask s.short)
+
+-- the value of a step, from all values
 abbrev pub step_value : Step → List ℕ → ℕ
-step_value s values =
-    kind_value s.kind s.bits s.shift (slice_index values s.x) (slice_index values s.y) (slice_index values s.z)
+step_value s values = kind_value s.kind s (slice_index values s.x) (slice_index values s.y) (slice_index values s.z)
 
--- all nets of a step are among so many
-pub record IsAmong (nets : ℕ) (s : Step) : Type 0 where
-  pub net : s.net < nets
-  pub x : s.x < nets
-  pub y : s.y < nets
-  pub z : s.z < nets
+-- what a step reads is among so many values
+pub record IsAmong (many : ℕ) (s : Step) : Type 0 where
+  pub x : s.kind ≢ Const → s.x < many
+  pub y : s.kind ≢ Const → s.y < many
+  pub z : s.kind ≢ Const → s.z < many
 
--- the values of all nets after these steps, one after another
-abbrev pub evaluated : List Step → List ℕ → List ℕ
-evaluated [] values = values
-evaluated (s ∷ ss) values = evaluated ss (slice_set values s.net (step_value s values))
+-- The values after so many of some steps, the first of which has this number. A step's value is put at its number,
+-- counted from a place on.
+abbrev pub evaluated : (ℕ → Step) → ℕ → ℕ → ℕ → List ℕ → List ℕ
+evaluated step at from zero values = values
+evaluated step at from (suc count) values =
+    evaluated step at (from + 1) count (slice_set values (at + from) (step_value (step from) values))

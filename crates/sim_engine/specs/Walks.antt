@@ -18,16 +18,20 @@ mark_at marks place = slice_index_or marks place New
 abbrev pub IsDone : ℕ → List Mark → ℕ → Type 0
 IsDone first marks net = first ≤ net → mark_at marks (net - first) ≡ Done
 
--- A state of the search. Each open cell stands on the stack, and depends on those behind it; each cell that is done
--- stands in the order.
+-- A state of the search. Each open cell stands on the stack, once, and depends on those behind it; each cell that is
+-- done stands in the order, once, and no other does.
 pub record IsWalk (n : Netlist) (marks : List Mark) (order stack : List ℕ) : Type 0 where
   pub long : length marks ≡ length n.cells
   pub placed : All (λ place. place < length n.cells) stack
   pub opened : (place : ℕ) → mark_at marks place ≡ Open → Contains stack place
   pub finished : (place : ℕ) → mark_at marks place ≡ Done → Contains order place
+  pub marked : All (λ place. mark_at marks place ≡ Open) stack
+  pub apart : AllPairs (λ a b. a ≢ b) stack
   pub path : AllPairs (λ a b. DependsOn n (sources n + a) (sources n + b)) stack
   pub exist : All (λ place. place < length n.cells) order
   pub ordered : AreReadyInTurn n [] order
+  pub listed : (place : ℕ) → Contains order place → mark_at marks place ≡ Done
+  pub once : AllPairs (λ a b. a ≢ b) order
 
 -- no cell becomes new
 abbrev pub KeepsMarks : List Mark → List Mark → Type 0

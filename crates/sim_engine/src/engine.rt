@@ -1,15 +1,21 @@
-ghost use Rattle.std.specs.Prelude.{◌≡◌, ◌%◌, ◌^◌, IfOk, MatchResult, length, map, replicate, sum};
+ghost use Rattle.std.specs.Prelude.{◌≡◌, ◌+◌, ◌%◌, ◌^◌, ◌<◌, All, IfOk, MatchResult, OnOk, length, map, replicate, sum};
 ghost use Rattle.net_cells.specs.declared.netlist.OutPort.{OutPort};
 ghost use Rattle.net_cells.specs.declared.netlist.Reg.{Reg};
-ghost use Rattle.net_cells.specs.Rules.{IsWellFormed};
+ghost use Rattle.net_cells.specs.Rules.{IsWellFormed, widths};
+ghost use Rattle.net_cells.specs.Values.{AreInputs};
 ghost use Rattle.net_cells.specs.Loops.{HasNoLoop};
-ghost use Rattle.sim_engine.specs.Orders.{HasLoop, IsOrder};
-ghost use Rattle.sim_engine.specs.Running.{AreInputs, IsFault, RunsCycle, opened};
+ghost use Rattle.sim_engine.specs.Columns.{CanEvaluate, step_of};
+ghost use Rattle.sim_engine.specs.Orders.{HasLoop, IsOrder, position};
+ghost use Rattle.sim_engine.specs.Running.{IsFault, RunsCycle, opened};
+ghost use Rattle.sim_engine.specs.Steps.{evaluated};
 
+use crate::columns::{Columns, columns_of};
 use crate::fault::EngineFault;
 use crate::loops::least_loop;
 use crate::order::{first_cell, order_of};
-use crate::steps::{Step, evaluate, steps_of};
+use crate::positions::{positions_of, settled_count};
+use crate::runs::{Run, evaluate, runs_of};
+use crate::steps::{Step, position, steps_of};
 use crate::values::{gather, keep, put, wrapped_sum};
 use dip_lists::Memory;
 use net_cells::{Netlist, OutPort, Reg};
@@ -17,14 +23,21 @@ use std::alloc::Global;
 use std::marker::Model;
 
 /// A netlist that runs cycle by cycle. Contracts see the netlist, and what its registers hold now.
+///
+/// Its values are those of the inputs, the registers and the cells, which stand in the order in which they
+/// are evaluated. The first cells read only each other, so that their values never change.
 #[derive(Drop)]
 pub struct Engine {
     netlist: Netlist,
-    steps: Vec<Step>,
-    // the nets of the outputs
-    shown: Vec<u64>,
-    // the next nets of the registers
-    nexts: Vec<u64>,
+    // where the cells that are evaluated in each cycle begin among the values
+    first: usize,
+    // these cells, and the runs of one operator among them
+    columns: Columns,
+    runs: Vec<Run>,
+    // where the nets of the outputs stand
+    shown: Vec<u32>,
+    // where the next nets of the registers stand
+    nexts: Vec<u32>,
     // the values of all nets
     values: Vec<u64>,
     // what the registers take at the end of a cycle
@@ -43,22 +56,39 @@ impl Model for Engine {
       registers = registers_in e.netlist e.values.items;
     } };
 
-    ghost invariant = { λ e. IsEngine e.netlist e.steps.items e.shown.items e.nexts.items e.values.items
-        e.kept.items };
+    ghost invariant = { λ e. IsEngine e.netlist e.columns e.runs.items e.first e.shown.items e.nexts.items
+        e.values.items e.kept.items };
 }
 
-// The nets of the outputs.
-fn shown_by(alloc: Global, ports: &[OutPort]) -> Result<Vec<u64>, Memory>
-    ensures { IfOk result (λ nets. nets.items ≡ map (λ (o : OutPort). o.net) ports.now) }
+// Where the nets of the outputs stand.
+fn shown_by(
+    alloc: Global,
+    ports: &[OutPort],
+    first: u32,
+    positions: &[u32],
+) -> Result<Vec<u32>, Memory>
+    requires { All (λ position. first + position < 2 ^ 32) positions.now }
+    ensures { IfOk result (λ places. places.items
+        ≡ map (λ (o : OutPort). position first positions.now o.net) ports.now) }
 {
-    Ok(ports.iter().map(|port| port.net).collect(alloc)?)
+    let mut places = Vec::with_capacity(alloc, ports.len())?;
+    for port in ports {
+        places.push(position(first, positions, port.net))?;
+    }
+    Ok(places)
 }
 
-// The next nets of the registers.
-fn nexts_of(alloc: Global, regs: &[Reg]) -> Result<Vec<u64>, Memory>
-    ensures { IfOk result (λ nets. nets.items ≡ map (λ (r : Reg). r.next) regs.now) }
+// Where the next nets of the registers stand.
+fn nexts_of(alloc: Global, regs: &[Reg], first: u32, positions: &[u32]) -> Result<Vec<u32>, Memory>
+    requires { All (λ position. first + position < 2 ^ 32) positions.now }
+    ensures { IfOk result (λ places. places.items
+        ≡ map (λ (r : Reg). position first positions.now r.next) regs.now) }
 {
-    Ok(regs.iter().map(|reg| reg.next).collect(alloc)?)
+    let mut places = Vec::with_capacity(alloc, regs.len())?;
+    for reg in regs {
+        places.push(position(first, positions, reg.next))?;
+    }
+    Ok(places)
 }
 
 // So many zeros.
@@ -68,18 +98,56 @@ fn zeros(alloc: Global, count: usize) -> Result<Vec<u64>, Memory>
     Ok(vec![in alloc; 0; count]?)
 }
 
+// The values of all nets, where only the first steps have been evaluated, whose values never change.
+fn settled(alloc: Global, nets: usize, first: usize, steps: &[Step]) -> Result<Vec<u64>, Memory>
+    requires { CanEvaluate steps.now first nets }
+    ensures { IfOk result (λ values. values.items
+        ≡ evaluated (step_of steps.now) first 0 (length steps.now) (replicate nets 0)) }
+{
+    let columns = columns_of(alloc, steps)?;
+    let runs = runs_of(alloc, columns.kind.as_slice())?;
+    let mut values = zeros(alloc, nets)?;
+    evaluate(&mut values, first, &columns, runs.as_slice());
+    Ok(values)
+}
+
+// How many nets a netlist has, where their numbers have at most 32 bits: an engine takes no more.
+fn nets_of(netlist: &Netlist) -> Result<u32, Memory>
+    requires { IsWellFormed netlist.now }
+    ensures nets { IfOk result (λ nets. nets ≡ length (widths netlist.now)) }
+    ensures few { OnOk result (length (widths netlist.now) < 2 ^ 32) }
+{
+    let nets = first_cell(netlist) + netlist.cells.len() as u64;
+    u32::try_from(nets).map_err(|_| Memory)
+}
+
 // The engine of a netlist whose cells are evaluated in this order.
 fn engine_of(alloc: Global, netlist: Netlist, order: &[u64]) -> Result<Engine, Memory>
     requires well { IsWellFormed netlist }
     requires order { IsOrder netlist order.now }
     ensures { IfOk result (λ engine. engine ≡ opened netlist) }
 {
-    let nets = first_cell(&netlist) as usize + netlist.cells.len();
+    let nets = nets_of(&netlist)? as usize;
+    let first = first_cell(&netlist) as u32;
+    let positions = positions_of(alloc, &netlist, order)?;
+    let steps = steps_of(alloc, &netlist, first, positions.as_slice(), order)?;
+    let count = settled_count(&netlist, order);
+    let (front, behind) = steps.as_slice().split_at(count);
+    let values = settled(alloc, nets, first as usize, front)?;
+    let columns = columns_of(alloc, behind)?;
+    let runs = runs_of(alloc, columns.kind.as_slice())?;
     Ok(Engine {
-        steps: steps_of(alloc, &netlist, order)?,
-        shown: shown_by(alloc, netlist.outputs.as_slice())?,
-        nexts: nexts_of(alloc, netlist.regs.as_slice())?,
-        values: zeros(alloc, nets)?,
+        first: first as usize + count,
+        columns,
+        runs,
+        shown: shown_by(
+            alloc,
+            netlist.outputs.as_slice(),
+            first,
+            positions.as_slice(),
+        )?,
+        nexts: nexts_of(alloc, netlist.regs.as_slice(), first, positions.as_slice())?,
+        values,
         kept: zeros(alloc, netlist.regs.len())?,
         netlist,
     })
@@ -125,7 +193,12 @@ impl Engine {
     {
         let first = self.netlist.inputs.len();
         put(&mut self.values, 0, inputs);
-        evaluate(&mut self.values, self.steps.as_slice());
+        evaluate(
+            &mut self.values,
+            self.first,
+            &self.columns,
+            self.runs.as_slice(),
+        );
         gather(self.values.as_slice(), self.shown.as_slice(), outputs);
         keep(
             self.values.as_slice(),

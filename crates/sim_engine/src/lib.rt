@@ -2,12 +2,17 @@
 #![tactic(auto)]
 
 mod arrange;
+mod columns;
 mod engine;
 mod fault;
+mod laws;
 mod loops;
 mod order;
+mod positions;
+mod runs;
 mod steps;
 mod values;
 
 pub use engine::Engine;
 pub use fault::EngineFault;
+pub use laws::order_law;

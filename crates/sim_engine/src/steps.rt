@@ -1,9 +1,8 @@
-ghost use Rattle.std.specs.Prelude.{◌≡◌, ◌+◌, ◌^◌, ◌-◌, ◌<◌, ◌≤◌, All, IfOk, length, map};
-ghost use Rattle.std.specs.List.{AllWithin};
-ghost use Rattle.net_cells.specs.Rules.{IsWellFormed, width_at, widths};
-ghost use Rattle.sim_engine.specs.Orders.{step_at};
-ghost use Rattle.sim_engine.specs.declared.steps.Step.{Step};
-ghost use Rattle.sim_engine.specs.Steps.{IsAmong, bits_of, evaluated, operator_kind, kind_value, shift_of, step_for, step_value, three};
+ghost use Rattle.std.specs.Prelude.{◌≡◌, ◌+◌, ◌^◌, ◌-◌, ◌/◌, ◌%◌, ◌<◌, ◌≤◌, All, IfOk, length, map};
+ghost use Rattle.net_cells.specs.Rules.{IsWellFormed, sources, width_at, widths};
+ghost use Rattle.net_cells.specs.Loops.{operands};
+ghost use Rattle.sim_engine.specs.Orders.{position, step_at};
+ghost use Rattle.sim_engine.specs.Steps.{high_part, low_part, operator_kind, shift_of, step_for, three};
 
 use crate::order::{cell_at, first_cell};
 use dip_lists::Memory;
@@ -27,23 +26,22 @@ pub enum Kind {
     Select,
 }
 
-/// A cell as the engine evaluates it, with what follows from its width worked out.
+/// A cell as the engine evaluates it, with what follows from its width worked out. The operands are places
+/// among the values.
 #[derive(Clone, Copy, Debug, PartialEq, Eq)]
 pub struct Step {
+    /// The first operand; of a constant the low half of its value; 0 where there is none.
+    pub x: u32,
+    /// The second operand; of a constant the high half of its value; 0 where there is none.
+    pub y: u32,
+    /// The third operand; 0 where there is none.
+    pub z: u32,
+    /// By how many bits the first operand is moved.
+    pub shift: u8,
+    /// By how many bits the cell is narrower than 64.
+    pub short: u8,
     /// The operator.
     pub kind: Kind,
-    /// By how many bits the first operand is moved.
-    pub shift: u32,
-    /// The greatest number of the cell's width; of a constant, its value.
-    pub bits: u64,
-    /// The cell's net.
-    pub net: u64,
-    /// The first operand's net; 0 where there is none.
-    pub x: u64,
-    /// The second operand's net; 0 where there is none.
-    pub y: u64,
-    /// The third operand's net; 0 where there is none.
-    pub z: u64,
 }
 
 /// The nets that an operator reads, with net 0 in place of those that it lacks.
@@ -62,6 +60,25 @@ pub fn three(op: CellOp) -> [u64; 3]
         | CellOp::Less(x, y)
         | CellOp::Concat(x, y) => [x, y, 0],
         CellOp::Mux(pick, x, y) => [pick, x, y],
+    }
+}
+
+/// How many nets an operator reads.
+pub fn operand_count(op: CellOp) -> usize
+    ensures { result ≡ length (operands op) }
+{
+    match op {
+        CellOp::Const(_) => 0,
+        CellOp::Not(_) | CellOp::Select { .. } => 1,
+        CellOp::And(..)
+        | CellOp::Or(..)
+        | CellOp::Xor(..)
+        | CellOp::Add(..)
+        | CellOp::Sub(..)
+        | CellOp::Eq(..)
+        | CellOp::Less(..)
+        | CellOp::Concat(..) => 2,
+        CellOp::Mux(..) => 3,
     }
 }
 
@@ -85,29 +102,6 @@ pub fn operator_kind(op: CellOp) -> Kind
     }
 }
 
-// The greatest number of so many bits.
-fn mask(width: u32) -> u64
-    requires { width ≤ 64 }
-    ensures { result ≡ 2 ^ width - 1 }
-{
-    if width == 64 {
-        u64::MAX
-    } else {
-        (1u64 << width) - 1
-    }
-}
-
-// The value of a constant, and the greatest number of so many bits for another operator.
-fn bits_of(width: u32, op: CellOp) -> u64
-    requires { width ≤ 64 }
-    ensures { result ≡ bits_of width op }
-{
-    match op {
-        CellOp::Const(value) => value,
-        _ => mask(width),
-    }
-}
-
 #[tactic(auto, using(crate::proofs::Widths::widths_read))]
 fn width_of(netlist: &Netlist, net: u64) -> u32
     ensures { result ≡ width_at (widths netlist.now) net }
@@ -115,7 +109,7 @@ fn width_of(netlist: &Netlist, net: u64) -> u32
     netlist.width_of(net).unwrap_or(0)
 }
 
-// By how many bits the operand of an operator is moved.
+// By how many bits the operand of an operator is moved, of which a shift takes those below 64.
 fn shift_of(netlist: &Netlist, op: CellOp) -> u32
     ensures { result ≡ shift_of (widths netlist.now) op }
 {
@@ -126,148 +120,94 @@ fn shift_of(netlist: &Netlist, op: CellOp) -> u32
     }
 }
 
-/// The step that sets a net to the value of an operator of so many bits.
-pub fn step_for(netlist: &Netlist, net: u64, width: u32, op: CellOp) -> Step
+// The low 32 bits of a constant's value, and the place of another operator's first operand.
+fn low_part(op: CellOp, place: u32) -> u32
+    ensures { result ≡ low_part op place }
+{
+    match op {
+        CellOp::Const(value) => (value % 4_294_967_296) as u32,
+        _ => place,
+    }
+}
+
+// The high 32 bits of a constant's value, and the place of another operator's second operand.
+fn high_part(op: CellOp, place: u32) -> u32
+    ensures { result ≡ high_part op place }
+{
+    match op {
+        CellOp::Const(value) => (value / 4_294_967_296) as u32,
+        _ => place,
+    }
+}
+
+/// The place of a net among the values: inputs and registers keep their numbers, and behind them each cell
+/// stands where it stands in the order.
+pub fn position(first: u32, positions: &[u32], net: u64) -> u32
+    requires { All (λ position. first + position < 2 ^ 32) positions.now }
+    ensures { result ≡ position first positions.now net }
+{
+    if net < u64::from(first) {
+        return net as u32;
+    }
+    match positions.get((net - u64::from(first)) as usize) {
+        Some(position) => first + *position,
+        None => first,
+    }
+}
+
+// The step of an operator of so many bits, whose operands stand at these places.
+fn step_for(netlist: &Netlist, width: u32, op: CellOp, x: u32, y: u32, z: u32) -> Step
     requires { width ≤ 64 }
-    ensures { result ≡ step_for (widths netlist.now) net width op }
+    ensures { result ≡ step_for (widths netlist.now) width op x y z }
 {
-    let [x, y, z] = three(op);
     Step {
-        kind: operator_kind(op),
-        shift: shift_of(netlist, op),
-        bits: bits_of(width, op),
-        net,
-        x,
-        y,
+        x: low_part(op, x),
+        y: high_part(op, y),
         z,
+        shift: (shift_of(netlist, op) % 64) as u8,
+        short: (64 - width) as u8,
+        kind: operator_kind(op),
     }
-}
-
-// The value of an operator, by the values of its operands.
-fn kind_value(kind: Kind, bits: u64, shift: u32, x: u64, y: u64, z: u64) -> u64
-    ensures { result ≡ kind_value kind bits shift x y z }
-{
-    match kind {
-        Kind::Const => bits,
-        // no operand has a bit that these lack, so the difference inverts each bit
-        Kind::Not => bits.saturating_sub(x),
-        Kind::And => x & y,
-        Kind::Or => x | y,
-        Kind::Xor => x ^ y,
-        Kind::Add => x.wrapping_add(y) & bits,
-        Kind::Sub => x.wrapping_sub(y) & bits,
-        Kind::Eq => u64::from(x == y),
-        Kind::Less => u64::from(x < y),
-        Kind::Mux => { if x == 1 { y } else { z } }
-        Kind::Concat => x.wrapping_shl(shift) | y,
-        Kind::Select => x.wrapping_shr(shift) & bits,
-    }
-}
-
-// The value of a step with this operator.
-fn value_as(kind: Kind, step: &Step, values: &[u64]) -> u64
-    requires kind { step.now.kind ≡ kind }
-    requires among { IsAmong (length values.now) step.now }
-    ensures { result ≡ step_value step.now values.now }
-{
-    let x = values[step.x as usize];
-    let y = values[step.y as usize];
-    let z = values[step.z as usize];
-    kind_value(kind, step.bits, step.shift, x, y, z)
-}
-
-// Takes steps with one operator, one after another.
-fn take_all(values: &mut [u64], kind: Kind, steps: &[Step])
-    requires kinds { All (λ (s : Step). s.kind ≡ kind) steps.now }
-    requires among { All (IsAmong (length values.old)) steps.now }
-    ensures { values.new ≡ evaluated steps.now values.old }
-{
-    for step in steps {
-        let value = value_as(kind, step, values);
-        values[step.net as usize] = value;
-    }
-}
-
-// Takes steps with one operator. Each arm is a loop of its own, compiled for its operator, so that no step
-// branches on it.
-fn take_run(values: &mut [u64], kind: Kind, steps: &[Step])
-    requires kinds { All (λ (s : Step). s.kind ≡ kind) steps.now }
-    requires among { All (IsAmong (length values.old)) steps.now }
-    ensures { values.new ≡ evaluated steps.now values.old }
-{
-    match kind {
-        Kind::Const => take_all(values, Kind::Const, steps),
-        Kind::Not => take_all(values, Kind::Not, steps),
-        Kind::And => take_all(values, Kind::And, steps),
-        Kind::Or => take_all(values, Kind::Or, steps),
-        Kind::Xor => take_all(values, Kind::Xor, steps),
-        Kind::Add => take_all(values, Kind::Add, steps),
-        Kind::Sub => take_all(values, Kind::Sub, steps),
-        Kind::Eq => take_all(values, Kind::Eq, steps),
-        Kind::Less => take_all(values, Kind::Less, steps),
-        Kind::Mux => take_all(values, Kind::Mux, steps),
-        Kind::Concat => take_all(values, Kind::Concat, steps),
-        Kind::Select => take_all(values, Kind::Select, steps),
-    }
-}
-
-// Where the steps with the operator of the step at a place end.
-fn run_end(steps: &[Step], from: usize, kind: Kind) -> usize
-    requires from { from < length steps.now }
-    requires kind { AllWithin (λ (s : Step). s.kind ≡ kind) steps.now from (from + 1) }
-    ensures after { from < result }
-    ensures within { result ≤ length steps.now }
-    ensures kinds { AllWithin (λ (s : Step). s.kind ≡ kind) steps.now from result }
-{
-    for at in from + 1..steps.len() {
-        if steps[at].kind != kind {
-            return at;
-        }
-    }
-    steps.len()
-}
-
-// Takes the steps one after another, as many at a time as have one operator.
-fn take_steps(values: &mut [u64], steps: &[Step])
-    requires { All (IsAmong (length values.old)) steps.now }
-    ensures { values.new ≡ evaluated steps.now values.old }
-{
-    let mut from = 0;
-    while from < steps.len() {
-        let kind = steps[from].kind;
-        let until = run_end(steps, from, kind);
-        take_run(values, kind, &steps[from..until]);
-        from = until;
-    }
-}
-
-/// Evaluates the cells whose steps these are.
-pub fn evaluate(values: &mut Vec<u64>, steps: &[Step])
-    requires { All (IsAmong (length values.old.items)) steps.now }
-    ensures { values.new.items ≡ evaluated steps.now values.old.items }
-{
-    take_steps(values, steps);
 }
 
 // The step of the cell at a place.
-fn step_at(netlist: &Netlist, place: u64) -> Step
+fn step_at(netlist: &Netlist, first: u32, positions: &[u32], place: u64) -> Step
     requires well { IsWellFormed netlist.now }
+    requires first { first ≡ sources netlist.now }
+    requires room { All (λ position. first + position < 2 ^ 32) positions.now }
     requires exists { place < length netlist.now.cells }
-    ensures { result ≡ step_at netlist.now place }
+    ensures { result ≡ step_at netlist.now positions.now place }
 {
     let cell = cell_at(netlist, place);
-    step_for(netlist, first_cell(netlist) + place, cell.width, cell.op)
+    let [x, y, z] = three(cell.op);
+    let (x, y) = (position(first, positions, x), position(first, positions, y));
+    step_for(
+        netlist,
+        cell.width,
+        cell.op,
+        x,
+        y,
+        position(first, positions, z),
+    )
 }
 
 /// The steps of some cells, in their order.
-pub fn steps_of(alloc: Global, netlist: &Netlist, order: &[u64]) -> Result<Vec<Step>, Memory>
+pub fn steps_of(
+    alloc: Global,
+    netlist: &Netlist,
+    first: u32,
+    positions: &[u32],
+    order: &[u64],
+) -> Result<Vec<Step>, Memory>
     requires well { IsWellFormed netlist.now }
+    requires first { first ≡ sources netlist.now }
+    requires room { All (λ position. first + position < 2 ^ 32) positions.now }
     requires exist { All (λ place. place < length netlist.now.cells) order.now }
-    ensures { IfOk result (λ steps. steps.items ≡ map (step_at netlist.now) order.now) }
+    ensures { IfOk result (λ steps. steps.items ≡ map (step_at netlist.now positions.now) order.now) }
 {
     let mut steps = Vec::with_capacity(alloc, order.len())?;
     for place in order {
-        steps.push(step_at(netlist, *place))?;
+        steps.push(step_at(netlist, first, positions, *place))?;
     }
     Ok(steps)
 }

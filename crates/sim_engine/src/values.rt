@@ -9,24 +9,24 @@ pub fn put(values: &mut Vec<u64>, first: usize, new: &[u64])
     values[first..first + new.len()].copy_from_slice(new);
 }
 
-/// Writes the values of some nets into a list, in their order.
-pub fn gather(values: &[u64], nets: &[u64], into: &mut [u64])
-    requires exist { All (λ net. net < length values.now) nets.now }
-    requires room { length into.old ≡ length nets.now }
-    ensures { into.new ≡ map (slice_index values.now) nets.now }
+/// Writes the values at some places into a list, in their order.
+pub fn gather(values: &[u64], places: &[u32], into: &mut [u64])
+    requires exist { All (λ place. place < length values.now) places.now }
+    requires room { length into.old ≡ length places.now }
+    ensures { into.new ≡ map (slice_index values.now) places.now }
 {
-    for (at, net) in nets.iter().enumerate() {
-        into[at] = values[*net as usize];
+    for (at, place) in places.iter().enumerate() {
+        into[at] = values[*place as usize];
     }
 }
 
-/// Writes the values of some nets into a list that is kept, in their order.
-pub fn keep(values: &[u64], nets: &[u64], kept: &mut Vec<u64>)
-    requires exist { All (λ net. net < length values.now) nets.now }
-    requires room { length kept.old.items ≡ length nets.now }
-    ensures { kept.new.items ≡ map (slice_index values.now) nets.now }
+/// Writes the values at some places into a list that is kept, in their order.
+pub fn keep(values: &[u64], places: &[u32], kept: &mut Vec<u64>)
+    requires exist { All (λ place. place < length values.now) places.now }
+    requires room { length kept.old.items ≡ length places.now }
+    ensures { kept.new.items ≡ map (slice_index values.now) places.now }
 {
-    gather(values, nets, kept);
+    gather(values, places, kept);
 }
 
 /// The sum of some numbers, modulo 2^64.

@@ -1,5 +1,5 @@
 use Rattle.std.proofs.Common.{◌≡◌, length}
-use Rattle.sim_engine.specs.Running.{AreInputs}
+use Rattle.net_cells.specs.Values.{AreInputs}
 use Rattle.net_tests.proofs.run.repeat.Given as goal
 
 abbrev pub invariant-loop : goal.invariant-loop

@@ -1,6 +1,6 @@
 use Rattle.std.proofs.Common.{◌≤◌, sym, subst}
 use Rattle.net_cells.specs.declared.netlist.Cell.{Cell}
-use Rattle.sim_engine.proofs.Agreement.{narrow}
+use Rattle.sim_engine.proofs.Rows.{narrow}
 use Rattle.sim_engine.proofs.steps.step_at.Goals as goal
 
 pub step_for-requires : goal.step_for-requires
