@@ -22,7 +22,8 @@ use Rattle.dip_graph.specs.Edges.{edges_at}
 use Rattle.tl_params.specs.Apart.{HasDisjointSets}
 use Rattle.tl_owners.proofs.SoundLeaves.{IsSoundLeaf}
 use Rattle.dip_plan.specs.DesignPlans.{plan_of}
-use Rattle.dip_plan.proofs.PlanLaws.{EachJoins, KindHas, HasItsPorts}
+use Rattle.dip_stars.specs.Filled.{HasItsEdges, HasItsPorts}
+use Rattle.dip_plan.proofs.PlanLaws.{EachJoins}
 
 pub record IsJudged (rules : List StatedRule) (design : Design) (edges : List Edge) (solution : Solution) : Type 0 where
   pub negotiable : IsNegotiable design edges
@@ -31,7 +32,7 @@ pub record IsJudged (rules : List StatedRule) (design : Design) (edges : List Ed
   pub few : length edges ≤ 1024
   pub ports : (number : ℕ) (edge : Edge) → slice_get edges number ≡ Some edge → HasItsPorts edges number edge
   pub joins : EachJoins rules edges design.nodes
-  pub has : (node : ℕ) (entry : NodeEntry) → slice_get design.nodes node ≡ Some entry → KindHas rules edges node entry.kind
+  pub has : (node : ℕ) (entry : NodeEntry) → slice_get design.nodes node ≡ Some entry → HasItsEdges rules edges node entry.kind
   pub fit : (node : ℕ) (entry : NodeEntry) (name args : List ℕ) (template : Template) → slice_get design.nodes node ≡ Some entry → entry.kind ≡ Ruled name args
       → template_of rules name ≡ Some template → fits template args (edges_to node edges) (edges_from node edges) solution.down solution.up ≡ true
   pub beats : (node : ℕ) → node < length design.nodes → is_nexus_kind rules (ruled_kind_at design.nodes node) ≡ true → beats_differ solution.up (edges_at node edges) ≡ false

@@ -43,7 +43,7 @@ use Rattle.dip_graph.specs.Edges.{edges_to, edges_from}
 use Rattle.dip_graph.specs.Edges.{edges_at}
 use Rattle.dip_checks.specs.Checks.{beat_at, beats_differ}
 use Rattle.dip_plan.specs.DesignPlans.{leaf_of, leaves_between, plan_edge, plan_edges, plan_of}
-use Rattle.dip_plan.proofs.PlanLaws.{KindHas}
+use Rattle.dip_stars.specs.Filled.{HasItsEdges, HasBothSides}
 use Rattle.dip_plan.proofs.Judged.{IsJudged, LeafLaw}
 use Rattle.tl_owners.proofs.SoundLeaves.{IsSoundLeaf}
 use Rattle.dip_plan.proofs.Parts.{by_node, by_template}
@@ -354,7 +354,10 @@ module _ (rules : List StatedRule) (design : Design) (edges : List Edge) (soluti
       nexus_node t = rw (is, k, t) refl
 
       has_edges : template_of rules name ≡ Some Xbar → (1 ≤ length (edges_to node edges)) × (1 ≤ length (edges_from node edges))
-      has_edges t = let h = subst (λ kind. KindHas rules edges node kind) k (j.has node entry is) in h (rw t refl)
+      has_edges t =
+          let h : HasItsEdges rules edges node (Ruled name args) = subst (λ kind. HasItsEdges rules edges node kind) k (j.has node entry is) in
+          let nexus : is_nexus_kind rules (Some name) ≡ true = rw t refl in
+          subst (λ (b : Bool). HasBothSides b (length (edges_to node edges)) (length (edges_from node edges))) nexus h
 
       at : (template : Template) → template_of rules name ≡ Some template → template_fits template args (edges_to node edges) (edges_from node edges) solution.down solution.up ≡ true
           → are_edges solution.down solution.up (edges_to node edges) ≡ true → are_edges solution.down solution.up (edges_from node edges) ≡ true

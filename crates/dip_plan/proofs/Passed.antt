@@ -38,7 +38,7 @@ use Rattle.dip_plan.proofs.PlanLaws.{KindJoins}
 use Rattle.dip_plan.proofs.Judged.{IsJudged}
 use Rattle.dip_plan.proofs.Members.{none_pass}
 use Rattle.dip_plan.proofs.Ranks.{follows}
-use Rattle.dip_plan.proofs.Sums.{counted}
+use Rattle.dip_stars.proofs.Sums.{each_has_its_edges, each_has_its_ports}
 
 -- ---- check by check
 
@@ -230,9 +230,9 @@ judged rules design w h =
       down = down.solves;
       up = up.solves;
       few = few_edges (design_counts rules design) (of_none (excess (design_counts rules design)) f.few);
-      ports = counted.ports (design_counts rules design);
+      ports = each_has_its_ports rules design;
       joins = λ node entry is. joins_at rules design edges solution n f node entry is;
-      has = counted.nodes rules design w f.waits f.filled;
+      has = each_has_its_edges rules design w (ap first f.filled);
       fit = λ node entry name args template is k t. fits_at rules design edges solution n f node entry name args template is k t;
       beats = λ node l nexus. same_beats rules design edges solution n f node l nexus;
       masters = all_here (λ (down : DownPort). masters_are_wrong down.masters) 0 solution.down f.masters;

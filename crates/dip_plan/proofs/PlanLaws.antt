@@ -1,5 +1,5 @@
 -- What is told of the plan of a design.
-use Rattle.std.specs.Prelude.{ℕ, ◌≡◌, ◌<◌, ◌≤◌, List, [], length, take, true, false, Some, slice_get, All}
+use Rattle.std.specs.Prelude.{ℕ, ◌≡◌, ◌<◌, List, [], length, false, Some, slice_get}
 use Rattle.tl_params.specs.declared.ops.Template.{Template}
 use Rattle.tl_params.specs.Operations.{is_nexus}
 use Rattle.dip_graph.specs.declared.design.NodeKind.{NodeKind}
@@ -8,11 +8,7 @@ use Rattle.dip_graph.specs.declared.design.NodeEntry.{NodeEntry}
 use Rattle.dip_graph.specs.declared.design.Design.{Design}
 use Rattle.dip_graph.specs.declared.edges.Edge.{Edge}
 use Rattle.dip_rule.specs.Stated.{StatedRule, template_of}
-use Rattle.dip_graph.specs.Edges.{HasNodes}
 use Rattle.dip_negotiate.specs.Negotiation.{IsNegotiable}
-use Rattle.dip_rule.specs.Stated.{is_nexus_template}
-use Rattle.dip_stars.specs.declared.rounds.Counted.{Counted}
-use Rattle.dip_stars.specs.Edges.{design_counts, waiting, unfilled, edges_of}
 use Rattle.dip_negotiate.specs.declared.solution.Solution.{Solution}
 use Rattle.tl_edge.specs.Plans.{NoneReturns, given_edges, taken_edges, times}
 use Rattle.dip_graph.specs.Edges.{edges_to, edges_from}
@@ -39,22 +35,3 @@ pub record OnceLaw : Type 0 where
       → (edge : ℕ) → edge < length edges → times edge (given_edges (plan_of rules design edges solution)) ≡ 1
   pub taken : (rules : List StatedRule) (design : Design) (edges : List Edge) (solution : Solution) → IsNegotiable design edges → EachJoins rules edges design.nodes
       → (edge : ℕ) → edge < length edges → times edge (taken_edges (plan_of rules design edges solution)) ≡ 1
-
--- ---- how many edges nodes have, and the numbers of their ports
-
--- a source has an edge for each of its ports, and a sink has; a nexus has at least one on either side
-abbrev pub KindHas : List StatedRule → List Edge → ℕ → NodeKind → Type 0
-KindHas rules edges node (Source ports ids emits) = length (edges_from node edges) ≡ ports
-KindHas rules edges node (Sink beat ports supports) = length (edges_to node edges) ≡ length ports
-KindHas rules edges node (Ruled kind args) = is_nexus_template (template_of rules kind) ≡ true → (1 ≤ length (edges_to node edges)) × (1 ≤ length (edges_from node edges))
-
--- the ports of an edge say how many edges of the same nodes stand before it
-pub record HasItsPorts (edges : List Edge) (number : ℕ) (edge : Edge) : Type 0 where
-  pub from : edge.from_port ≡ length (edges_from edge.from (take number edges))
-  pub to : edge.to_port ≡ length (edges_to edge.to (take number edges))
-
-pub record CountedLaw : Type 0 where
-  pub ports : (counts : List Counted) (number : ℕ) (edge : Edge) → slice_get (edges_of counts) number ≡ Some edge → HasItsPorts (edges_of counts) number edge
-  pub nodes : (rules : List StatedRule) (design : Design) → All (HasNodes design.nodes) design.binds
-      → waiting (design_counts rules design) ≡ [] → unfilled rules design.nodes (design_counts rules design) ≡ []
-      → (node : ℕ) (entry : NodeEntry) → slice_get design.nodes node ≡ Some entry → KindHas rules (edges_of (design_counts rules design)) node entry.kind

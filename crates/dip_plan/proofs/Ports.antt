@@ -12,7 +12,7 @@ use Rattle.dip_graph.specs.declared.design.NodeEntry.{NodeEntry}
 use Rattle.dip_graph.specs.declared.edges.Edge.{Edge}
 use Rattle.dip_graph.specs.Edges.{edges_to, edges_from}
 use Rattle.dip_plan.specs.DesignPlans.{ports_on, source_ports, sink_ports, ports_from}
-use Rattle.dip_plan.proofs.Sums.{hits}
+use Rattle.dip_stars.proofs.Sums.{hits}
 
 -- ---- where a place stands
 

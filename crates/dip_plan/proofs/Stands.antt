@@ -30,7 +30,7 @@ use Rattle.dip_checks.specs.Checks.{edges_in, solution_of, design_checks, agreed
 use Rattle.dip_plan.specs.SoundLaw.{LegalOverPlanLaw}
 use Rattle.dip_plan.proofs.Passed.{judged}
 use Rattle.dip_plan.proofs.Judged.{IsJudged}
-use Rattle.dip_plan.proofs.PlanLaws.{KindHas}
+use Rattle.dip_stars.specs.Filled.{HasItsEdges}
 use Rattle.dip_plan.proofs.Ports.{PortsOf, IsBefore, port_on, in_order, sources_keep, sinks_keep}
 use Rattle.dip_plan.proofs.Whole.{IsSourcePort, IsSinkPort, all_sources, all_sinks, long}
 
@@ -108,7 +108,7 @@ module _ (rules : List StatedRule) (design : Design) (edges : List Edge) (soluti
       at (Sink beat ports supports) e l = absurd (omega arith)
       at (Ruled name args) e l = absurd (omega arith)
       at (Source ports ids emits) e l =
-          let many : length (edges_from n edges) ≡ ports = subst (λ kind. KindHas rules edges n kind) e (j.has n h.entry h.is) in
+          let many : length (edges_from n edges) ≡ ports = subst (λ kind. HasItsEdges rules edges n kind) e (j.has n h.entry h.is) in
           let k = slice_get-get_or (edges_from n edges) p 0 (omega arith) in
           let from : n ≡ 0 + n = omega arith in
           let first : 0 + p ≡ p = omega arith in
@@ -152,7 +152,7 @@ module _ (rules : List StatedRule) (design : Design) (edges : List Edge) (soluti
       at (Source ports ids emits) e l = absurd (omega arith)
       at (Ruled name args) e l = absurd (omega arith)
       at (Sink beat ports supports) e l =
-          let many : length (edges_to n edges) ≡ length ports = subst (λ kind. KindHas rules edges n kind) e (j.has n h.entry h.is) in
+          let many : length (edges_to n edges) ≡ length ports = subst (λ kind. HasItsEdges rules edges n kind) e (j.has n h.entry h.is) in
           let k = slice_get-get_or (edges_to n edges) p 0 (omega arith) in
           let from : n ≡ 0 + n = omega arith in
           let first : 0 + p ≡ p = omega arith in

@@ -50,7 +50,7 @@ use Rattle.dip_checks.specs.Checks.{has_wrong_ids, share_ids, masters_are_wrong,
 use Rattle.tl_params.specs.Owners.{sets_of as all_sets}
 use Rattle.tl_params.specs.Apart.{HasDisjointSets}
 use Rattle.dip_plan.specs.DesignPlans.{kind_leaves, source_ports, sink_ports, plan_edge, plan_edges, plan_of}
-use Rattle.dip_plan.proofs.PlanLaws.{KindHas}
+use Rattle.dip_stars.specs.Filled.{HasItsEdges}
 use Rattle.dip_graph.specs.WellStated.{IsStatedPort, IsStatedKind, IsStatedNode, IsWellStated}
 use Rattle.dip_plan.proofs.Judged.{IsJudged}
 use Rattle.tl_owners.proofs.SoundLeaves.{IsSoundLeaf}
@@ -59,7 +59,7 @@ use Rattle.dip_plan.proofs.Members.{place_is}
 use Rattle.dip_plan.proofs.Parts as parts
 use Rattle.dip_plan.proofs.Ranks.{acyclic, nodes_exist}
 use Rattle.dip_plan.proofs.Once.{once}
-use Rattle.dip_plan.proofs.Sums.{hits, placed_length}
+use Rattle.dip_stars.proofs.Sums.{hits, placed_length}
 use Rattle.dip_plan.proofs.Passed.{judged}
 use Rattle.dip_plan.proofs.Leaves.{at_number, leaf_law}
 use Rattle.tl_owners.proofs.Members.{all_in, item_has}
@@ -305,7 +305,7 @@ module _ (rules : List StatedRule) (design : Design) (edges : List Edge) (soluti
           let here : slice_get edges x ≡ Some p.item = subst (λ y. slice_get edges y ≡ Some p.item) z p.is in
           let to : p.item.to ≡ node = eqb-true p.item.to node p.passes in
           let counted : hits (λ (edge : Edge). edge.to == node) (take x edges) ≡ k = subst (λ y. hits (λ (edge : Edge). edge.to == node) (take y edges) ≡ k) z p.before in
-          let has : length (edges_to node edges) ≡ length ports = subst (λ kind. KindHas rules edges node kind) e (j.has node entry is) in
+          let has : length (edges_to node edges) ≡ length ports = subst (λ kind. HasItsEdges rules edges node kind) e (j.has node entry is) in
           let l = slice_get_within (edges_to node edges) k x f in
           let number : p.item.to_port ≡ 0 + k = (j.ports x p.item here).to ∙ ap (λ m. length (edges_to m (take x edges))) to ∙ placed_length (λ (edge : Edge). edge.to == node) 0 (take x edges) ∙ counted ∙ none k in
           record { entry = entry; beat = beat; ports = ports; supports = supports; is = is; kind = e; name = refl; edge = p.item; at = here; to = to; to_port = number; low = omega arith })
@@ -342,7 +342,7 @@ module _ (rules : List StatedRule) (design : Design) (edges : List Edge) (soluti
           let here : slice_get edges x ≡ Some p.item = subst (λ y. slice_get edges y ≡ Some p.item) z p.is in
           let from : p.item.from ≡ node = eqb-true p.item.from node p.passes in
           let counted : hits (λ (edge : Edge). edge.from == node) (take x edges) ≡ k = subst (λ y. hits (λ (edge : Edge). edge.from == node) (take y edges) ≡ k) z p.before in
-          let has : length (edges_from node edges) ≡ ports = subst (λ kind. KindHas rules edges node kind) e (j.has node entry is) in
+          let has : length (edges_from node edges) ≡ ports = subst (λ kind. HasItsEdges rules edges node kind) e (j.has node entry is) in
           let l = slice_get_within (edges_from node edges) k x f in
           let number : p.item.from_port ≡ 0 + k = (j.ports x p.item here).from ∙ ap (λ m. length (edges_from m (take x edges))) from ∙ placed_length (λ (edge : Edge). edge.from == node) 0 (take x edges) ∙ counted ∙ none k in
           record { entry = entry; ports = ports; ids = ids; emits = emits; is = is; kind = e; name = refl; edge = p.item; at = here; from = from; from_port = number; low = omega arith })
