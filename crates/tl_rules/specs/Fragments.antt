@@ -21,7 +21,8 @@ cut piece s =
 -- cutting
 abbrev pub widened : Fragments → SizeRange → SizeRange
 widened fragments s =
-    cond (has_size s fragments.piece) (size_range s.min (max s.max fragments.largest)) (meet s (size_range 1 fragments.piece))
+    cond (has_size s fragments.piece) (size_range s.min (max s.max fragments.largest))
+    (meet s (size_range 1 fragments.piece))
 
 -- operations behind the fragmenter
 abbrev pub cut_ops : ℕ → Ops → Ops
