@@ -23,4 +23,4 @@ pub use limits::{
 };
 pub use ordering::{OrderFault, canonical_order, order};
 pub use tl_params::Numbers;
-pub use well_stated::is_well_stated;
+pub use well_stated::{binds_have_nodes, is_well_stated};

@@ -156,7 +156,8 @@ fn has_nodes(nodes: &[NodeEntry], bind: &BindEntry) -> bool
     (bind.to as usize) < nodes.len() && (bind.from as usize) < nodes.len()
 }
 
-fn are_bound(nodes: &[NodeEntry], binds: &[BindEntry]) -> bool
+/// Whether each bind names nodes that exist.
+pub fn binds_have_nodes(nodes: &[NodeEntry], binds: &[BindEntry]) -> bool
     ensures { IsTrue result ↔ All (HasNodes nodes.now) binds.now }
 {
     binds.iter().all(|bind| has_nodes(nodes, bind))
@@ -179,5 +180,5 @@ pub fn is_well_stated(design: &Design) -> bool
         && are_stated_nodes(nodes, modules.len())
         && names_differ(nodes)
         && binds.len() <= MOST_BINDS
-        && are_bound(nodes, binds)
+        && binds_have_nodes(nodes, binds)
 }

@@ -1,22 +1,10 @@
 ghost use Rattle.std.specs.Prelude.{◌≡◌, ◌<◌, ◌^◌, ◌↔◌, length, IsTrue, All, IfOk};
-ghost use Rattle.dip_graph.specs.Edges.{FollowsBind, HasNodes};
+ghost use Rattle.dip_graph.specs.Edges.{FollowsBind};
 ghost use Rattle.dip_negotiate.specs.Negotiation.{IsNegotiable};
 
-use dip_graph::{BindEntry, Design, Edge, NodeEntry, OrderFault, order};
+use dip_graph::{BindEntry, Design, Edge, OrderFault, binds_have_nodes, order};
 use dip_lists::Memory;
 use std::alloc::Global;
-
-fn has_nodes(nodes: &[NodeEntry], bind: &BindEntry) -> bool
-    ensures { IsTrue result ↔ HasNodes nodes.now bind.now }
-{
-    (bind.to as usize) < nodes.len() && (bind.from as usize) < nodes.len()
-}
-
-fn binds_have_nodes(nodes: &[NodeEntry], binds: &[BindEntry]) -> bool
-    ensures { IsTrue result ↔ All (HasNodes nodes.now) binds.now }
-{
-    binds.iter().all(|bind| has_nodes(nodes, bind))
-}
 
 fn follows_bind(binds: &[BindEntry], edge: &Edge) -> bool
     ensures { IsTrue result ↔ FollowsBind binds.now edge.now }
