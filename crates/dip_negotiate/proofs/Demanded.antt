@@ -1,5 +1,5 @@
 -- The answers of demands beside the whole solution and beside each other.
-use Rattle.std.proofs.Common.{◌≡◌, ℕ, ◌≤◌, ◌<◌, List, refl, sym, ap, ◌∙◌, subst, arith, inl, inr, Option, Some, Result, Ok, Err}
+use Rattle.std.proofs.Common.{◌≡◌, ℕ, ◌≤◌, ◌<◌, List, refl, sym, ap, ◌∙◌, subst, arith, inl, inr, Some, Result, Err}
 use Rattle.std.specs.Prelude.{slice_get}
 use Rattle.std.proofs.lemmas.Bool.{cases_eq, cases_lt}
 use Rattle.dip_graph.specs.Orders.{canonical_order}

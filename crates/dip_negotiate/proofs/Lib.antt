@@ -15,3 +15,4 @@ pub mod Shared
 pub mod Turned
 pub mod Lazily
 pub mod Demanded
+pub mod Gathering

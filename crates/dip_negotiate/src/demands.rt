@@ -192,7 +192,7 @@ pub fn all_ports<P: Negotiated>(
         alloc, rules, nodes, edges, steps, firsts, &marks, &mut ports,
     ) {
         Err(fault) => Err(fault),
-        Ok(()) => match gathered(alloc, firsts, &ports) {
+        Ok(()) => match gathered(alloc, firsts, ports) {
             Ok(all) => Ok(all),
             Err(_) => Err(PassFault::Memory),
         },

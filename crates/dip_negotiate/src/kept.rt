@@ -1,4 +1,5 @@
-ghost use Rattle.std.specs.Prelude.{◌+◌, ◌≤◌, map, sum, ◌≡◌, ◌<◌, ◌++◌, [], Some, None, get_or, length, replicate, slice_set, IfOk, OnOk};
+ghost use Rattle.std.specs.Prelude.{◌==◌, drop, ◌+◌, ◌≤◌, map, sum, ◌≡◌, ◌<◌, ◌++◌, [], Some, None, get_or, length, replicate, slice_set, IfOk, OnOk};
+ghost use Rattle.std.specs.List.{list_any};
 ghost use Rattle.std.specs.Option.{option_copied};
 ghost use Rattle.dip_negotiate.specs.Demands as spec;
 ghost use Rattle.dip_negotiate.specs.Passes.{beside};
@@ -76,11 +77,7 @@ pub fn make_room<P: Negotiated>(ports: &[Option<P>], entries: usize) -> Result<(
 
 // Adds a copy of a port, where there is one.
 #[tactic(auto, using(crate::proofs::Seen::beside_none))]
-fn pick<P: Negotiated>(
-    alloc: Global,
-    port: Option<&P>,
-    some: &mut Items<P>,
-) -> Result<(), Memory>
+fn pick<P: Negotiated>(alloc: Global, port: Option<&P>, some: &mut Items<P>) -> Result<(), Memory>
     ensures { OnOk result (some.new ≡ some.old ++ beside (option_copied port.entry) []) }
 {
     match port {
@@ -90,7 +87,7 @@ fn pick<P: Negotiated>(
 }
 
 /// Copies of the ports of some edges by their numbers, of those that are known; `Memory` where they have
-/// more than `MOST_ENTRIES` masters or slaves together.
+/// more than 1,048,576 masters or slaves together.
 #[tactic(auto, using(crate::proofs::Picks::beside_more))]
 pub fn picked<P: Negotiated>(
     alloc: Global,
@@ -100,10 +97,10 @@ pub fn picked<P: Negotiated>(
 ) -> Result<Items<P>, Memory>
     ensures value { IfOk result (λ some. some ≡ spec.known_of (spec.seen firsts.now ports.now)
         numbers.now) }
-    ensures bounded { IfOk result (λ some. sum (map P.count some) ≤ P.MOST_ENTRIES) }
+    ensures bounded { IfOk result (λ some. sum (map P.count some) ≤ 1048576) }
 {
     let mut some = Items::new(alloc);
-    let mut room = P::MOST_ENTRIES;
+    let mut room = MOST_ITEMS;
     for number in numbers {
         let port = port_at(firsts, ports, *number);
         room = room_beside(port, room)?;
@@ -112,23 +109,63 @@ pub fn picked<P: Negotiated>(
     Ok(some)
 }
 
-/// Copies of the ports of all edges, of those that are known; `Memory` where they have more than
-/// `MOST_ENTRIES` masters or slaves together.
+// Whether a number is one of these.
+fn is_among(number: u32, numbers: &[u32]) -> bool
+    ensures { result ≡ list_any (λ other. other == number) numbers.now }
+{
+    numbers.iter().any(|other| *other == number)
+}
+
+// Whether a number stands again behind a place.
+fn stands_behind(number: u32, numbers: &[u32], place: usize) -> bool
+    requires { place < length numbers.now }
+    ensures { result ≡ list_any (λ other. other == number) (drop (place + 1) numbers.now) }
+{
+    is_among(number, &numbers[place + 1..])
+}
+
+// Takes the port at a place, where there is one.
+#[tactic(auto, using(crate::proofs::Picks::set_past, crate::proofs::Seen::beside_none))]
+fn take<P: Negotiated>(
+    ports: &mut Vec<Option<P>>,
+    place: u32,
+    some: &mut Items<P>,
+) -> Result<(), Memory>
+    ensures ports { ports.new.items ≡ slice_set ports.old.items place None }
+    ensures some { OnOk result (some.new ≡ some.old ++ beside (get_or ports.old.items place None) []) }
+{
+    if (place as usize) < ports.len() {
+        match ports[place as usize].take() {
+            Some(port) => some.push(port),
+            None => Ok(()),
+        }
+    } else {
+        Ok(())
+    }
+}
+
+/// The ports of all edges, of those that are known, each copied for all edges of its place but the last;
+/// `Memory` where they have more than `MOST_ENTRIES` masters or slaves together.
 #[tactic(auto, using(crate::proofs::Picks::beside_more))]
 pub fn gathered<P: Negotiated>(
     alloc: Global,
     firsts: &[u32],
-    ports: &[Option<P>],
+    ports: Vec<Option<P>>,
 ) -> Result<Items<P>, Memory>
-    ensures value { IfOk result (λ some. some ≡ spec.gathered (spec.seen firsts.now ports.now)) }
+    ensures value { IfOk result (λ some. some ≡ spec.gathered (spec.seen firsts.now ports.items)) }
     ensures bounded { IfOk result (λ some. sum (map P.count some) ≤ P.MOST_ENTRIES) }
 {
+    let mut ports = ports;
     let mut some = Items::new(alloc);
     let mut room = P::MOST_ENTRIES;
-    for first in firsts {
-        let port = at(ports, *first);
-        room = room_beside(port, room)?;
-        pick(alloc, port, &mut some)?;
+    for edge in 0..firsts.len() {
+        let first = firsts[edge];
+        room = room_beside(at(&ports, first), room)?;
+        if stands_behind(first, firsts, edge) {
+            pick(alloc, at(&ports, first), &mut some)?;
+        } else {
+            take(&mut ports, first, &mut some)?;
+        }
     }
     Ok(some)
 }

@@ -28,7 +28,7 @@ pub trait Negotiated: Duplicate {
 
     ghost MOST_ENTRIES: { ℕ };
 
-    /// How many masters or slaves are kept or copied together at most.
+    /// How many masters or slaves are kept together at most, and given together at the end.
     const MOST_ENTRIES: usize;
 
     /// The end of an edge at the node that makes its port.
@@ -75,8 +75,8 @@ impl Negotiated for DownPort {
 
     ghost MOST_ENTRIES = { 8388608 };
 
-    // A master has 64 bytes. An accepted design has at most 1,024 edges with 1,024 masters each, since all ids
-    // are below 1,024.
+    // A master has 64 bytes, so all are half a gigabyte. An accepted design has at most 1,024 edges with 1,024
+    // masters each, since all ids are below 1,024.
     const MOST_ENTRIES: usize = 8_388_608;
 
     fn near(edge: &Edge) -> End {
@@ -118,11 +118,11 @@ impl Negotiated for UpPort {
 
     ghost count = { λ port. length port.slaves };
 
-    ghost MOST_ENTRIES = { 4194304 };
+    ghost MOST_ENTRIES = { 2097152 };
 
-    // A slave has about 150 bytes. An accepted design has at most 1,024 edges with 1,024 slaves each, since
-    // each slave is a port of a sink and no edge shows one twice.
-    const MOST_ENTRIES: usize = 4_194_304;
+    // A slave has 144 bytes, so all are a third of a gigabyte. An accepted design has at most 1,024 edges with
+    // 1,024 slaves each, since each slave is a port of a sink and no edge shows one twice.
+    const MOST_ENTRIES: usize = 2_097_152;
 
     fn near(edge: &Edge) -> End {
         sink_end(edge)

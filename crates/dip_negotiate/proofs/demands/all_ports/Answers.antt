@@ -1,7 +1,7 @@
 use Rattle.std.proofs.Common.{◌≡◌, Err, Ok, ap, sym, ◌∙◌}
 use Rattle.dip_rule.specs.Boxed.{stated_by}
 use Rattle.dip_negotiate.specs.declared.demands.PassFault.TheVariants.{Refused}
-use Rattle.dip_negotiate.specs.Demands.{gathered, seen}
+use Rattle.dip_negotiate.specs.Demands.{seen}
 use Rattle.dip_negotiate.proofs.Passing.{all_gathered, all_go_on, all_stopped}
 use Rattle.dip_negotiate.proofs.demands.all_ports.Goals as goal
 
@@ -23,4 +23,4 @@ returns-in-Ok-gathered-clause-ok g c =
     let pass = g.P.Negotiated.pass (stated_by (goal.Rule-dyn g) c.args.rules.now) c.args.nodes.now c.args.edges.now in
     let is = all_gathered pass c.args.edges.now c.args.steps.now c.requires.in_turn g.P.Negotiated.unknown (seen c.args.firsts.now c.ask_marked.new.ports.items) c.ask_marked.ensures.known c.deref.result.now
     (c.deref.ensures.value ∙ c.in-Ok.ensures) c.in-Ok-ask_marked.ensures.ok in
-    is ∙ ap Ok (ap (λ x. gathered (seen c.args.firsts.now x)) (sym c.deref-in-Ok-ask_marked.ensures.value) ∙ sym c.in-Ok-gathered.ensures.value)
+    is ∙ ap Ok (sym c.in-Ok-gathered.ensures.value)
