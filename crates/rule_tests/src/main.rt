@@ -10,6 +10,7 @@ mod lazy;
 mod own;
 mod ports;
 mod show;
+mod stated;
 mod text;
 
 use crate::asked::{ask_closures, ask_down, ask_fits, ask_kind, ask_up};
@@ -17,6 +18,7 @@ use crate::broken::Broken;
 use crate::graphs::{ask_edges, ask_order, ask_ports, ask_weight};
 use crate::lazy::{Counters, ask_demands, ask_orders};
 use crate::own::{counting_rule, refusing_rule, refusing_up};
+use crate::stated::ask_stated;
 use crate::text::{halves, name};
 use dip_lists::Memory;
 use dip_rule::{Rule, RuleEntry, Rules};
@@ -47,6 +49,7 @@ fn answer(
         "closures" => ask_closures(rt),
         "demands" => ask_demands(rt, rules, counters, text),
         "orders" => ask_orders(rt, rules, text),
+        "stated" => ask_stated(rt, text),
         _ => Ok(()),
     }
 }
