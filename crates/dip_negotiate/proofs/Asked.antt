@@ -10,12 +10,12 @@ use Rattle.dip_rule.specs.declared.fault.RuleFault.{RuleFault}
 use Rattle.dip_rule.specs.declared.fault.RuleFault.TheVariants.{Refused}
 use Rattle.dip_negotiate.specs.declared.steps.Step.{Step}
 use Rattle.dip_negotiate.specs.Passes.{Pass, beside}
-use Rattle.dip_negotiate.specs.Demands.{AllKept, In, IsKnown, keeps, KeepsOnly, known_of, seen, Stays}
+use Rattle.dip_negotiate.specs.Demands.{AllKept, IsOneOf, IsKnown, keeps, KeepsOnly, known_of, seen, Stays}
 use Rattle.dip_negotiate.specs.Turns.{AreShared, GoesOn, InTurn, is_wanted, marked, SameFirst, StopsAt}
 use Rattle.dip_negotiate.proofs.Needed.{not_both, and_left, and_right, wanted, same_step, true_or_false}
 use Rattle.dip_negotiate.proofs.Seen.{seen_at}
 
-pub same_known : {P : Type 0} (a b : List (Option P)) (ys : List ℕ) → ((y : ℕ) → In y ys → get_or a y None ≡ get_or b y None) → known_of a ys ≡ known_of b ys
+pub same_known : {P : Type 0} (a b : List (Option P)) (ys : List ℕ) → ((y : ℕ) → IsOneOf y ys → get_or a y None ≡ get_or b y None) → known_of a ys ≡ known_of b ys
 same_known a b [] h = refl
 same_known a b (y ∷ ys) h =
     ap (λ o. beside o (known_of a ys)) (h y (inl refl)) ∙ ap (λ xs. beside (get_or b y None) xs) (same_known a b ys (λ z i. h z (inr i)))
@@ -114,7 +114,7 @@ module _ {P : Type 0} (pass : Pass P) (edges : List Edge) (steps : List Step) (f
       pub here : s.number < length edges
       here = slice_get_within edges s.number s.edge at_edge
 
-      pub asked : (y : ℕ) → In y (pass.asks s.edge) → keeps (seen firsts ports) y ≡ true
+      pub asked : (y : ℕ) → IsOneOf y (pass.asks s.edge) → keeps (seen firsts ports) y ≡ true
       asked y i =
           let b = turns.behind turn s is y i in
           subst (λ (z : ℕ). keeps (seen firsts ports) z ≡ true) b.4 (a.front b.0 b.1 b.2 b.3 (subst (λ (z : ℕ). marked ms z ≡ true) (sym b.4) (on s.number s.edge at_edge mark free_before y i)))
@@ -185,9 +185,9 @@ module _ {P : Type 0} (pass : Pass P) (edges : List Edge) (steps : List Step) (f
         ]
 
         -- what is asked for an edge that is known now was known before
-        asks_of : (k : ℕ) (edge : Edge) → slice_get edges k ≡ Some edge → keeps (seen firsts after) k ≡ true → (y : ℕ) → In y (pass.asks edge) → keeps (seen firsts ports) y ≡ true
+        asks_of : (k : ℕ) (edge : Edge) → slice_get edges k ≡ Some edge → keeps (seen firsts after) k ≡ true → (y : ℕ) → IsOneOf y (pass.asks edge) → keeps (seen firsts ports) y ≡ true
         asks_of k edge ie h y i = elim (here_or_known k h) [
-          | inl e ↦ asked y (subst (λ (zs : List ℕ). In y zs) (share.asks k s.number edge s.edge ie at_edge e) i)
+          | inl e ↦ asked y (subst (λ (zs : List ℕ). IsOneOf y zs) (share.asks k s.number edge s.edge ie at_edge e) i)
           | inr t ↦ a.is.closed k edge ie t y i
         ]
 

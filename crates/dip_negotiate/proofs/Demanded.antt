@@ -8,7 +8,7 @@ use Rattle.dip_negotiate.specs.declared.steps.Step.{Step}
 use Rattle.dip_negotiate.specs.Passes.{Pass, stated, OnlySolves}
 use Rattle.dip_negotiate.specs.Places.{steps_down, steps_up}
 use Rattle.dip_negotiate.specs.Negotiation.{down_pass, up_pass}
-use Rattle.dip_negotiate.specs.Demands.{DependsOn, IsBefore, IsFirstRefusal, IsPortOf}
+use Rattle.dip_negotiate.specs.Demands.{PortDependsOn, IsTakenBefore, IsFirstRefusal, IsPortOf}
 use Rattle.dip_negotiate.specs.DemandsLaw.{DemandedPortLaw, DemandRefusalLaw}
 use Rattle.dip_negotiate.specs.Turns.{InTurn}
 use Rattle.dip_negotiate.proofs.Needed.{same_step}
@@ -41,7 +41,7 @@ module _ {P : Type 0} (pass : Pass P) (edges : List Edge) (steps : List Step) (t
   one_refusal d e m n r t = elim (cases_eq r.turn t.turn) [
     | inl q ↦ (let same : record { number = r.refused; edge = d } ≡ record { number = t.refused; edge = e } = same_step _ _ (sym r.taken ∙ ap (slice_get steps) q ∙ t.taken) in
         let edge_is : d ≡ e = ap (λ (s : Step). s.edge) same in
-        let said : stated pass r.ports e ≡ Err n = t.refuses r.ports (λ k x kx o. r.before k x kx (o.0, subst (λ z. IsBefore steps z k) (sym q) o.1)) in
+        let said : stated pass r.ports e ≡ Err n = t.refuses r.ports (λ k x kx o. r.before k x kx (o.0, subst (λ z. IsTakenBefore steps z k) (sym q) o.1)) in
         (edge_is, same_err (stated pass r.ports d) m n (r.refuses r.ports r.before) (ap (stated pass r.ports) edge_is ∙ said)))
     | inr o ↦ elim (cases_lt r.turn t.turn) [
       | inl l ↦ absurd (earlier d e m n r t l)
@@ -56,10 +56,10 @@ pub demand_refusal : DemandRefusalLaw
 demand_refusal = record {
   one_down = λ rules design edges n i d e a b r t.
       one_refusal (down_pass rules design.nodes edges) edges (steps_down (canonical_order design) edges) (down_in_turn rules design edges n (steps_down (canonical_order design) edges) refl)
-      (DependsOn (down_pass rules design.nodes edges) edges i) d e a b r t;
+      (PortDependsOn (down_pass rules design.nodes edges) edges i) d e a b r t;
   one_up = λ rules design edges n i d e a b r t.
       one_refusal (up_pass rules design.nodes edges) edges (steps_up (canonical_order design) edges) (up_in_turn rules design edges n (steps_up (canonical_order design) edges) refl)
-      (DependsOn (up_pass rules design.nodes edges) edges i) d e a b r t;
+      (PortDependsOn (up_pass rules design.nodes edges) edges i) d e a b r t;
   none_down = λ rules design edges i e n port r p. r.unsolved p.ports p.only.solves;
   none_up = λ rules design edges i e n port r p. r.unsolved p.ports p.only.solves;
 }

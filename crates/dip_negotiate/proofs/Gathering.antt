@@ -3,10 +3,10 @@ use Rattle.std.proofs.Common.{◌≡◌, ℕ, ◌+◌, ◌<◌, List, [], ◌++�
 use Rattle.std.proofs.lemmas.Grind.{common_steps}
 use Rattle.std.proofs.lemmas.List.{append-nil, drop_more, map_push}
 use Rattle.dip_negotiate.specs.Passes.{beside}
-use Rattle.dip_negotiate.specs.Demands.{counted, gathered, seen}
+use Rattle.dip_negotiate.specs.Demands.{port_entries, gathered, seen}
 use Rattle.dip_negotiate.proofs.Picks.{beside_more}
 
-sum_beside : {P : Type 0} (count : P → ℕ) (some : List P) (o : Option P) → sum (map count (some ++ beside o [])) ≡ sum (map count some) + counted count o
+sum_beside : {P : Type 0} (count : P → ℕ) (some : List P) (o : Option P) → sum (map count (some ++ beside o [])) ≡ sum (map count some) + port_entries count o
 sum_beside count some None = ap (λ xs. sum (map count xs)) (append-nil some) ∙ none (sum (map count some))
   where
     none : (n : ℕ) → n ≡ n + 0
@@ -15,7 +15,7 @@ sum_beside count some (Some port) = ap sum (map_push count some port) ∙ search
 
 module _ {P : Type 0} (count : P → ℕ) (firsts : List ℕ) (old ports new : List (Option P)) (some more : List P) (e room left most : ℕ) (within : e < length firsts)
     (is : more ≡ some ++ beside (get_or ports (get_or firsts e 0) None) []) (kept : seen (drop (e + 1) firsts) new ≡ seen (drop (e + 1) firsts) ports)
-    (room_left : left + counted count (get_or ports (get_or firsts e 0) None) ≡ room) where
+    (room_left : left + port_entries count (get_or ports (get_or firsts e 0) None) ≡ room) where
   gathered_on : some ++ gathered (seen (drop e firsts) ports) ≡ gathered (seen firsts old) → more ++ gathered (seen (drop (e + 1) firsts) new) ≡ gathered (seen firsts old)
   gathered_on h =
       ap (λ xs. xs ++ gathered (seen (drop (e + 1) firsts) new)) is

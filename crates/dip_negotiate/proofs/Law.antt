@@ -21,7 +21,7 @@ use Rattle.dip_negotiate.specs.declared.steps.Step.{Step}
 use Rattle.dip_negotiate.specs.Passes.{Pass, Refusal, run, stated, Holds, HoldAt, Solves, OnlySolves, RefusesFirst}
 use Rattle.dip_negotiate.specs.Places.{source_end, sink_end, belongs, asked, steps_at, steps_down, steps_up}
 use Rattle.dip_negotiate.specs.Negotiation.{IsNegotiable, NegotiationLaw, down_pass, up_pass, downs, ups, no_masters, no_slaves}
-use Rattle.dip_negotiate.specs.Demands.{In}
+use Rattle.dip_negotiate.specs.Demands.{IsOneOf}
 use Rattle.dip_negotiate.proofs.Lookups.{same_ports}
 use Rattle.dip_negotiate.proofs.Runs.{InOrder, Within, run_done, only, refuses_first}
 use Rattle.dip_negotiate.proofs.Taken.{IsStep, at_is, known_step, step_left, step_right}
@@ -128,7 +128,7 @@ sound_up edges (m ∷ ns) x edge i = elim (split_steps x edge (steps_up ns edges
 -- ---- of a design
 
 -- what passes a test among numbered items is one of them
-among : {A : Type 0} (test : ℕ → A → Bool) (from : ℕ) (xs : List A) (y : ℕ) → In y (places test from xs)
+among : {A : Type 0} (test : ℕ → A → Bool) (from : ℕ) (xs : List A) (y : ℕ) → IsOneOf y (places test from xs)
     → (j : ℕ) × (x : A) × (y ≡ from + j) × (slice_get xs j ≡ Some x) × (test y x ≡ true)
 among test from [] y h = absurd h
 among test from (x ∷ xs) y h = at (test from x) refl h (among test (from + 1) xs y)
@@ -136,15 +136,15 @@ among test from (x ∷ xs) y h = at (test from x) refl h (among test (from + 1) 
     later : ((j : ℕ) × (z : _) × (y ≡ from + 1 + j) × (slice_get xs j ≡ Some z) × (test y z ≡ true)) → (j : ℕ) × (z : _) × (y ≡ from + j) × (slice_get (x ∷ xs) j ≡ Some z) × (test y z ≡ true)
     later f = let q : y ≡ from + suc f.0 = omega (arith, f.2) in (suc f.0, f.1, q, f.3, f.4)
 
-    at : (b : Bool) → test from x ≡ b → In y (cond b (from ∷ places test (from + 1) xs) (places test (from + 1) xs))
-        → (In y (places test (from + 1) xs) → (j : ℕ) × (z : _) × (y ≡ from + 1 + j) × (slice_get xs j ≡ Some z) × (test y z ≡ true))
+    at : (b : Bool) → test from x ≡ b → IsOneOf y (cond b (from ∷ places test (from + 1) xs) (places test (from + 1) xs))
+        → (IsOneOf y (places test (from + 1) xs) → (j : ℕ) × (z : _) × (y ≡ from + 1 + j) × (slice_get xs j ≡ Some z) × (test y z ≡ true))
         → (j : ℕ) × (z : _) × (y ≡ from + j) × (slice_get (x ∷ xs) j ≡ Some z) × (test y z ≡ true)
     at true q (inl i) f = let z : y ≡ from + 0 = omega (arith, i) in (0, x, z, refl, ap (λ n. test n x) i ∙ q)
     at true q (inr i) f = later (f i)
     at false q i f = later (f i)
 
 -- an edge that is asked reaches the node of the one that asks
-reaches : (rules : List StatedRule) (nodes : List NodeEntry) (edges : List Edge) (near far : Edge → End) (edge : Edge) (y : ℕ) → In y (asked rules nodes edges near far edge)
+reaches : (rules : List StatedRule) (nodes : List NodeEntry) (edges : List Edge) (near far : Edge → End) (edge : Edge) (y : ℕ) → IsOneOf y (asked rules nodes edges near far edge)
     → (other : Edge) × (slice_get edges y ≡ Some other) × ((far other).node ≡ (near edge).node)
 reaches rules nodes edges near far edge y i =
     let a = among (λ number other. belongs (is_nexus_kind rules (ruled_kind_at nodes (near edge).node)) (near edge) (far other)) 0 edges y i in

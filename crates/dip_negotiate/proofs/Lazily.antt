@@ -18,7 +18,7 @@ use Rattle.dip_rule.specs.Stated.{StatedRule}
 use Rattle.dip_negotiate.specs.Passes.{Pass, Refusal, refusal}
 use Rattle.dip_negotiate.specs.Places.{source_end, sink_end, steps_down, steps_up}
 use Rattle.dip_negotiate.specs.Negotiation.{down_pass, up_pass, downs, ups, place_of, IsDownFault, IsUpFault, IsNegotiable, IsOnlySolution, IsRefusalAt}
-use Rattle.dip_negotiate.specs.Demands.{DependsOn, IsDown, IsDownRefusal, IsFirstRefusal, IsUp, IsUpRefusal, firsts_of, places_of, IsKnown, IsPortOf, keeps, KeepsNone, KeepsOnly, seen, SharePlace}
+use Rattle.dip_negotiate.specs.Demands.{PortDependsOn, IsDown, IsDownRefusal, IsFirstRefusal, IsUp, IsUpRefusal, firsts_of, end_places, IsKnown, IsPortOf, keeps, KeepsNone, KeepsOnly, seen, SharePlace}
 use Rattle.dip_negotiate.specs.Turns.{InTurn, SameFirst}
 use Rattle.dip_negotiate.proofs.Needed.{not_both}
 use Rattle.dip_negotiate.proofs.Only.{port_of}
@@ -79,7 +79,7 @@ shared_only place edges firsts q Own old new long within o k h = elim (o k h) [
 
 -- a refusal of a demand, by the place of the refused edge
 pub down_refusal : (rules : List StatedRule) (design : Design) (edges : List Edge) (i : ℕ) (f : PassFault) (r : NegFault)
-    → ((e : Edge) (n : ℕ) → f ≡ Refused e n → IsFirstRefusal (down_pass rules design.nodes edges) edges (steps_down (canonical_order design) edges) (DependsOn (down_pass rules design.nodes edges) edges i) e n)
+    → ((e : Edge) (n : ℕ) → f ≡ Refused e n → IsFirstRefusal (down_pass rules design.nodes edges) edges (steps_down (canonical_order design) edges) (PortDependsOn (down_pass rules design.nodes edges) edges i) e n)
     → ((e : Edge) (n : ℕ) → f ≡ Refused e n → r ≡ DownRefused (place_of rules design.nodes (source_end e)).node (place_of rules design.nodes (source_end e)).port n)
     → (f ≡ Memory → r ≡ NegMemory) → IsDownRefusal rules design edges i r
 down_refusal rules design edges i (Refused e n) r first at_ memory =
@@ -87,7 +87,7 @@ down_refusal rules design edges i (Refused e n) r first at_ memory =
 down_refusal rules design edges i Memory r first at_ memory = subst (λ (x : NegFault). IsDownRefusal rules design edges i x) (sym (memory refl)) tt
 
 pub up_refusal : (rules : List StatedRule) (design : Design) (edges : List Edge) (i : ℕ) (f : PassFault) (r : NegFault)
-    → ((e : Edge) (n : ℕ) → f ≡ Refused e n → IsFirstRefusal (up_pass rules design.nodes edges) edges (steps_up (canonical_order design) edges) (DependsOn (up_pass rules design.nodes edges) edges i) e n)
+    → ((e : Edge) (n : ℕ) → f ≡ Refused e n → IsFirstRefusal (up_pass rules design.nodes edges) edges (steps_up (canonical_order design) edges) (PortDependsOn (up_pass rules design.nodes edges) edges i) e n)
     → ((e : Edge) (n : ℕ) → f ≡ Refused e n → r ≡ UpRefused (place_of rules design.nodes (sink_end e)).node (place_of rules design.nodes (sink_end e)).port n)
     → (f ≡ Memory → r ≡ NegMemory) → IsUpRefusal rules design edges i r
 up_refusal rules design edges i (Refused e n) r first at_ memory =
@@ -96,7 +96,7 @@ up_refusal rules design edges i Memory r first at_ memory = subst (λ (x : NegFa
 
 module _ (rules : List StatedRule) (design : Design) (edges : List Edge) where
   pub first_down : (steps : List Step) (firsts : List ℕ) (ports : List (Option DownPort)) → steps ≡ steps_down (canonical_order design) edges
-      → firsts ≡ firsts_of (places_of rules design.nodes source_end edges) → ports ≡ replicate (length edges) None
+      → firsts ≡ firsts_of (end_places rules design.nodes source_end edges) → ports ≡ replicate (length edges) None
       → IsDown rules design edges (record { steps = steps; firsts = firsts }) ports
   first_down steps firsts ports s f q = record {
     steps = s;
@@ -106,7 +106,7 @@ module _ (rules : List StatedRule) (design : Design) (edges : List Edge) where
   }
 
   pub first_up : (steps : List Step) (firsts : List ℕ) (ports : List (Option UpPort)) → steps ≡ steps_up (canonical_order design) edges
-      → firsts ≡ firsts_of (places_of rules design.nodes sink_end edges) → ports ≡ replicate (length edges) None
+      → firsts ≡ firsts_of (end_places rules design.nodes sink_end edges) → ports ≡ replicate (length edges) None
       → IsUp rules design edges (record { steps = steps; firsts = firsts }) ports
   first_up steps firsts ports s f q = record {
     steps = s;

@@ -3,7 +3,7 @@ use Rattle.std.proofs.Common.{◌≡◌, ℕ, ◌≤◌, ◌<◌, Bool, true, fa
 use Rattle.std.specs.Prelude.{slice_set}
 use Rattle.std.proofs.lemmas.List.{get_or-set_same, get_or-set_other, length-set}
 use Rattle.std.proofs.lemmas.Bool.{cases_eq}
-use Rattle.dip_negotiate.specs.Demands.{In}
+use Rattle.dip_negotiate.specs.Demands.{IsOneOf}
 use Rattle.dip_negotiate.specs.Turns.{marked, spread}
 use Rattle.dip_negotiate.proofs.Picks.{set_past}
 
@@ -24,7 +24,7 @@ set_cases ms x k h = elim (cases_eq k x) [ inl q ↦ inl q | inr n ↦ inr (sym 
 
 -- all of these edges have a place among the marks
 abbrev pub AreWithin : List Bool → List ℕ → Type 0
-AreWithin ms es = (e : ℕ) → In e es → e < length ms
+AreWithin ms es = (e : ℕ) → IsOneOf e es → e < length ms
 
 shorter : (ms : List Bool) (x : ℕ) (es : List ℕ) → AreWithin ms (x ∷ es) → AreWithin (slice_set ms x true) es
 shorter ms x es h e i = subst (λ (n : ℕ). e < n) (sym (length-set ms x true)) (h e (inr i))
@@ -33,7 +33,7 @@ pub spread_keeps : (ms : List Bool) (es : List ℕ) (k : ℕ) → AreWithin ms e
 spread_keeps ms [] k a h = h
 spread_keeps ms (x ∷ es) k a h = spread_keeps (slice_set ms x true) es k (shorter ms x es a) (set_keeps ms x k (a x (inl refl)) h)
 
-pub spread_marks : (ms : List Bool) (es : List ℕ) (k : ℕ) → AreWithin ms es → In k es → marked (spread ms es) k ≡ true
+pub spread_marks : (ms : List Bool) (es : List ℕ) (k : ℕ) → AreWithin ms es → IsOneOf k es → marked (spread ms es) k ≡ true
 spread_marks ms [] k a i = absurd i
 spread_marks ms (x ∷ es) k a i =
     elim i [
@@ -41,7 +41,7 @@ spread_marks ms (x ∷ es) k a i =
       | inr j ↦ spread_marks (slice_set ms x true) es k (shorter ms x es a) j
     ]
 
-pub spread_cases : (ms : List Bool) (es : List ℕ) (k : ℕ) → marked (spread ms es) k ≡ true → In k es ⊎ (marked ms k ≡ true)
+pub spread_cases : (ms : List Bool) (es : List ℕ) (k : ℕ) → marked (spread ms es) k ≡ true → IsOneOf k es ⊎ (marked ms k ≡ true)
 spread_cases ms [] k h = inr h
 spread_cases ms (x ∷ es) k h =
     elim (spread_cases (slice_set ms x true) es k h) [

@@ -7,7 +7,7 @@ use Rattle.std.proofs.lemmas.Bool.{cases_eq, cases_lt}
 use Rattle.dip_graph.specs.declared.edges.Edge.{Edge}
 use Rattle.dip_negotiate.specs.declared.steps.Step.{Step}
 use Rattle.dip_negotiate.specs.Passes.{Pass}
-use Rattle.dip_negotiate.specs.Demands.{DependsOn, In, IsClosed, keeps}
+use Rattle.dip_negotiate.specs.Demands.{PortDependsOn, IsOneOf, IsClosed, keeps}
 use Rattle.dip_negotiate.specs.Turns.{AreMarked, GoesOn, gone_on, InTurn, is_wanted, marked, spread}
 use Rattle.dip_negotiate.proofs.Marks.{AreWithin, set_cases, spread_cases, spread_keeps, spread_length, spread_marks}
 
@@ -62,9 +62,9 @@ same_step p r e = cc
 pub record SoFar {P : Type 0} (pass : Pass P) (edges : List Edge) (steps : List Step) (ks : List (Option P)) (i back : ℕ) (ms : List Bool) : Type 0 where
   pub long : length ms ≡ length edges
   pub here : marked ms i ≡ true
-  pub own : (k : ℕ) → marked ms k ≡ true → DependsOn pass edges i k
+  pub own : (k : ℕ) → marked ms k ≡ true → PortDependsOn pass edges i k
   pub on : (q : ℕ) (s : Step) → slice_get steps q ≡ Some s → length steps ≤ q + back → marked ms s.number ≡ true → keeps ks s.number ≡ false
-      → (y : ℕ) → In y (pass.asks s.edge) → marked ms y ≡ true
+      → (y : ℕ) → IsOneOf y (pass.asks s.edge) → marked ms y ≡ true
 
 module _ {P : Type 0} (pass : Pass P) (edges : List Edge) (steps : List Step) (turn : InTurn pass edges steps) (ks : List (Option P)) where
   pub at_start : (i : ℕ) (ms : List Bool) → i < length edges → ms ≡ replicate (length edges) false → SoFar pass edges steps ks i 0 (slice_set ms i true)
@@ -81,7 +81,7 @@ module _ {P : Type 0} (pass : Pass P) (edges : List Edge) (steps : List Step) (t
       past : (r : ℕ) → r < length steps → length steps ≤ r + 0 → ⊥
       past r a b = omega arith
 
-  pub asked_by : (i k : ℕ) (edge : Edge) → slice_get edges k ≡ Some edge → DependsOn pass edges i k → (y : ℕ) → In y (pass.asks edge) → DependsOn pass edges i y
+  pub asked_by : (i k : ℕ) (edge : Edge) → slice_get edges k ≡ Some edge → PortDependsOn pass edges i k → (y : ℕ) → IsOneOf y (pass.asks edge) → PortDependsOn pass edges i y
   asked_by i k edge is d y j = λ has c s. c k edge is (d has c s) y j
 
   pub asks_within : (ms : List Bool) → length ms ≡ length edges → (q : ℕ) (s : Step) → slice_get steps q ≡ Some s → AreWithin ms (pass.asks s.edge)
@@ -101,7 +101,7 @@ module _ {P : Type 0} (pass : Pass P) (edges : List Edge) (steps : List Step) (t
         further x b n = omega arith
 
     -- what is asked isn't one of the later steps
-    not_later : (x : ℕ) (r : Step) → slice_get steps x ≡ Some r → length steps ≤ x + back → In r.number (pass.asks p.edge) → ⊥
+    not_later : (x : ℕ) (r : Step) → slice_get steps x ≡ Some r → length steps ≤ x + back → IsOneOf r.number (pass.asks p.edge) → ⊥
     not_later x r ir b j =
         let f = turn.behind q p is r.number j in
         let e : f.0 ≡ x = turn.once f.0 x f.1 r f.3 ir f.4 in
@@ -119,7 +119,7 @@ module _ {P : Type 0} (pass : Pass P) (edges : List Edge) (steps : List Step) (t
         | inr m ↦ s.own x m
       ];
       on = λ x r ir b h f y j. elim (here_or_later x b) [
-        | inl e ↦ spread_marks ms (pass.asks p.edge) y within (subst (λ (z : Step). In y (pass.asks z.edge)) (same_step r p (sym ir ∙ subst (λ (z : ℕ). slice_get steps z ≡ Some p) (sym e) is)) j)
+        | inl e ↦ spread_marks ms (pass.asks p.edge) y within (subst (λ (z : Step). IsOneOf y (pass.asks z.edge)) (same_step r p (sym ir ∙ subst (λ (z : ℕ). slice_get steps z ≡ Some p) (sym e) is)) j)
         | inr a ↦ spread_keeps ms (pass.asks p.edge) y within
             (s.on x r ir a (elim (spread_cases ms (pass.asks p.edge) r.number h) [ inl t ↦ absurd (not_later x r ir a t) | inr m ↦ m ]) f y j)
       ];
@@ -150,7 +150,7 @@ module _ {P : Type 0} (pass : Pass P) (edges : List Edge) (steps : List Step) (t
   one_further i back ms s b new e =
       go_further i back ms s (length steps - 1 - back) (get_or steps (length steps - 1 - back) blank) (slice_get-get_or steps (length steps - 1 - back) blank (omega arith)) (omega arith) new e
 
-  pub all_marked : IsClosed pass edges (keeps ks) → (i back : ℕ) (ms : List Bool) → length steps ≤ back → SoFar pass edges steps ks i back ms → AreMarked pass edges ks (DependsOn pass edges i) ms
+  pub all_marked : IsClosed pass edges (keeps ks) → (i back : ℕ) (ms : List Bool) → length steps ≤ back → SoFar pass edges steps ks i back ms → AreMarked pass edges ks (PortDependsOn pass edges i) ms
   all_marked closed i back ms l s = record {
     long = s.long;
     own = s.own;

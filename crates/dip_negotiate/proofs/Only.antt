@@ -6,7 +6,7 @@ use Rattle.std.proofs.lemmas.Bool.{ltb-true, lt-ltb}
 use Rattle.dip_graph.specs.declared.edges.Edge.{Edge}
 use Rattle.dip_negotiate.specs.declared.steps.Step.{Step}
 use Rattle.dip_negotiate.specs.Passes.{Pass, beside, picked, stated, Holds}
-use Rattle.dip_negotiate.specs.Demands.{AllKept, DependsOn, gathered, In, IsBefore, IsClosed, IsFirstRefusal, IsKnown, IsPortOf, keeps, KeepsOnly, known_of, OnlySolvesFor, SolvesFor, Stays}
+use Rattle.dip_negotiate.specs.Demands.{AllKept, PortDependsOn, gathered, IsOneOf, IsTakenBefore, IsClosed, IsFirstRefusal, IsKnown, IsPortOf, keeps, KeepsOnly, known_of, OnlySolvesFor, SolvesFor, Stays}
 use Rattle.dip_negotiate.specs.Turns.{AreMarked, InTurn, marked, StopsAt}
 use Rattle.dip_negotiate.proofs.Lookups.{same_picked}
 use Rattle.dip_negotiate.proofs.Needed.{asked_by, not_both}
@@ -32,7 +32,7 @@ port_in blank [] k port e = absurd cc
 port_in blank (o ∷ known) zero port e = ap (λ x. Some (unwrap_or x blank)) e
 port_in blank (o ∷ known) (suc k) port e = port_in blank known k port e
 
-pub picked_known : {P : Type 0} (blank : P) (known : List (Option P)) (ys : List ℕ) → ((y : ℕ) → In y ys → keeps known y ≡ true) → picked (ports_of blank known) ys ≡ known_of known ys
+pub picked_known : {P : Type 0} (blank : P) (known : List (Option P)) (ys : List ℕ) → ((y : ℕ) → IsOneOf y ys → keeps known y ≡ true) → picked (ports_of blank known) ys ≡ known_of known ys
 picked_known blank known [] h = refl
 picked_known blank known (y ∷ ys) h =
     let p = port_kept known y (h y (inl refl)) in
@@ -51,17 +51,17 @@ gathered_all {P = P} blank (o ∷ known) h = at o refl ∙ ap (λ xs. unwrap_or 
 
 -- a set of edges that has, with each of them, those that are asked for its port
 abbrev pub IsWhole : {P : Type 0} → Pass P → List Edge → (ℕ → Type 0) → Type 0
-IsWhole pass edges Own = (k : ℕ) (edge : Edge) → slice_get edges k ≡ Some edge → Own k → (y : ℕ) → In y (pass.asks edge) → Own y
+IsWhole pass edges Own = (k : ℕ) (edge : Edge) → slice_get edges k ≡ Some edge → Own k → (y : ℕ) → IsOneOf y (pass.asks edge) → Own y
 
 module _ {P : Type 0} (pass : Pass P) (edges : List Edge) (steps : List Step) (turns : InTurn pass edges steps) where
-  pub dependent : (i : ℕ) → IsWhole pass edges (DependsOn pass edges i)
+  pub dependent : (i : ℕ) → IsWhole pass edges (PortDependsOn pass edges i)
   dependent i k edge is d y j = asked_by pass edges steps turns [] i k edge is d y j
 
-  pub lower : (Own : ℕ → Type 0) → IsWhole pass edges Own → (turn : ℕ) → IsWhole pass edges (λ k. Own k × IsBefore steps turn k)
+  pub lower : (Own : ℕ → Type 0) → IsWhole pass edges Own → (turn : ℕ) → IsWhole pass edges (λ k. Own k × IsTakenBefore steps turn k)
   lower Own whole turn k edge is o y j =
       let b = o.1 in
       let same : b.1.edge ≡ edge = same_edge b.1.edge edge (sym (turns.sound b.0 b.1 b.3) ∙ ap (slice_get edges) b.4 ∙ is) in
-      let f = turns.behind b.0 b.1 b.3 y (subst (λ (e : Edge). In y (pass.asks e)) (sym same) j) in
+      let f = turns.behind b.0 b.1 b.3 y (subst (λ (e : Edge). IsOneOf y (pass.asks e)) (sym same) j) in
       (whole k edge is o.0 y j, (f.0, f.1, less f.0 b.0 f.2 b.2, f.3, f.4))
     where
       less : (r q : ℕ) → r < q → q < turn → r < turn
@@ -122,28 +122,28 @@ module _ {P : Type 0} (pass : Pass P) (edges : List Edge) (steps : List Step) (t
         at_edge : slice_get edges st.refused ≡ Some edge
         at_edge = turns.sound st.turn (record { number = st.refused; edge = edge }) st.taken
 
-        s : SolvesFor pass edges (λ k. Own k × IsBefore steps st.turn k) (ports_of blank known)
+        s : SolvesFor pass edges (λ k. Own k × IsTakenBefore steps st.turn k) (ports_of blank known)
         s k d id o = holds_known k d id (elim (all k o.0) [
           | inl m ↦ (let b = o.1 in subst (λ z. keeps known z ≡ true) b.4 (st.before b.0 b.1 b.2 b.3 (subst (λ z. marked ms z ≡ true) (sym b.4) m)))
           | inr t ↦ t
         ])
 
-        refuses : (others : List P) → SolvesFor pass edges (λ k. Own k × IsBefore steps st.turn k) others → stated pass others edge ≡ Err n
+        refuses : (others : List P) → SolvesFor pass edges (λ k. Own k × IsTakenBefore steps st.turn k) others → stated pass others edge ≡ Err n
         refuses others t =
             ap (pass.says edge) (same_picked others (ports_of blank known) (pass.asks edge) (λ y i.
             let b = turns.behind st.turn (record { number = st.refused; edge = edge }) st.taken y i in
-            agree (λ k. Own k × IsBefore steps st.turn k) (lower Own whole st.turn) others (ports_of blank known) t s y b.1.edge
+            agree (λ k. Own k × IsTakenBefore steps st.turn k) (lower Own whole st.turn) others (ports_of blank known) t s y b.1.edge
             (subst (λ z. slice_get edges z ≡ Some b.1.edge) b.4 (turns.sound b.0 b.1 b.3))
             (whole st.refused edge at_edge (own st.refused st.is_marked) y i, (b.0, b.1, b.2, b.3, b.4))))
             ∙ ap (pass.says edge) (picked_known blank known (pass.asks edge) st.asked) ∙ st.refuses
 
   -- ---- a demand
 
-  pub depended_kept : (i : ℕ) (known : List (Option P)) → IsKnown pass edges known → keeps known i ≡ true → AllKept (DependsOn pass edges i) known
+  pub depended_kept : (i : ℕ) (known : List (Option P)) → IsKnown pass edges known → keeps known i ≡ true → AllKept (PortDependsOn pass edges i) known
   depended_kept i known is h k d = d (keeps known) is.closed h
 
   -- an edge on which one depends is an edge
-  pub depended_within : (i : ℕ) → i < length edges → (k : ℕ) → DependsOn pass edges i k → k < length edges
+  pub depended_within : (i : ℕ) → i < length edges → (k : ℕ) → PortDependsOn pass edges i k → k < length edges
   depended_within i l k d = ltb-true k (length edges) (d (λ j. ltb j (length edges)) closed (lt-ltb i (length edges) l))
     where
       closed : IsClosed pass edges (λ j. ltb j (length edges))
@@ -152,23 +152,23 @@ module _ {P : Type 0} (pass : Pass P) (edges : List Edge) (steps : List Step) (t
           let b = turns.behind w.0 (record { number = j; edge = edge }) w.1 y m in
           lt-ltb y (length edges) (subst (λ z. z < length edges) b.4 (slice_get_within edges b.1.number b.1.edge (turns.sound b.0 b.1 b.3)))
 
-  pub itself : (i : ℕ) → DependsOn pass edges i i
+  pub itself : (i : ℕ) → PortDependsOn pass edges i i
   itself i = λ has c h. h
 
   pub port_of : (i : ℕ) (known : List (Option P)) (port : P) → IsKnown pass edges known → get_or known i None ≡ Some port → IsPortOf pass edges i port
   port_of i known port is e = record {
     ports = ports_of port known;
-    only = only_known known is port (DependsOn pass edges i) (dependent i) (depended_kept i known is (keeps_port known i port e));
+    only = only_known known is port (PortDependsOn pass edges i) (dependent i) (depended_kept i known is (keeps_port known i port e));
     here = port_in port known i port e;
   }
 
-  module _ (i : ℕ) (old new : List (Option P)) (ms : List Bool) (m : AreMarked pass edges old (DependsOn pass edges i) ms) where
-    pub only_depended : (Share : ℕ → ℕ → Type 0) → KeepsOnly Share (λ k. marked ms k ≡ true) old new → KeepsOnly Share (DependsOn pass edges i) old new
+  module _ (i : ℕ) (old new : List (Option P)) (ms : List Bool) (m : AreMarked pass edges old (PortDependsOn pass edges i) ms) where
+    pub only_depended : (Share : ℕ → ℕ → Type 0) → KeepsOnly Share (λ k. marked ms k ≡ true) old new → KeepsOnly Share (PortDependsOn pass edges i) old new
     only_depended Share o k h = elim (o k h) [ inl t ↦ inl t | inr f ↦ inr (f.0, m.own f.0 f.1, f.2) ]
 
-    pub demand_refused : P → IsKnown pass edges new → Stays old new → (edge : Edge) (n : ℕ) → StopsAt pass steps ms new edge n → IsFirstRefusal pass edges steps (DependsOn pass edges i) edge n
-    demand_refused blank is st edge n s = refused_first new is blank (DependsOn pass edges i) (dependent i) ms edge n s m.own
+    pub demand_refused : P → IsKnown pass edges new → Stays old new → (edge : Edge) (n : ℕ) → StopsAt pass steps ms new edge n → IsFirstRefusal pass edges steps (PortDependsOn pass edges i) edge n
+    demand_refused blank is st edge n s = refused_first new is blank (PortDependsOn pass edges i) (dependent i) ms edge n s m.own
         (λ k o. elim (m.whole k o) [ inl x ↦ inl x | inr t ↦ inr (keeps_still old new st k t) ])
 
-    pub demanded : Stays old new → AllKept (λ k. marked ms k ≡ true) new → AllKept (DependsOn pass edges i) new
+    pub demanded : Stays old new → AllKept (λ k. marked ms k ≡ true) new → AllKept (PortDependsOn pass edges i) new
     demanded st a k o = elim (m.whole k o) [ inl x ↦ a k x | inr t ↦ keeps_still old new st k t ]

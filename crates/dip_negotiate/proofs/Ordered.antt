@@ -11,7 +11,7 @@ use Rattle.dip_graph.specs.declared.edges.Edge.{Edge}
 use Rattle.dip_negotiate.specs.Places.{source_end, sink_end, steps_at, steps_down, steps_up}
 use Rattle.dip_lists.proofs.Tests.{both}
 use Rattle.dip_graph.specs.Edges.{FollowsBind}
-use Rattle.dip_negotiate.specs.Demands.{In}
+use Rattle.dip_negotiate.specs.Demands.{IsOneOf}
 use Rattle.dip_negotiate.proofs.Runs.{InOrder, known_after}
 use Rattle.dip_negotiate.proofs.Taken.{Knows, IsStep, at_node, knows_more, known_joined, order_joined, step_left, step_right, at_has, yes_or_no}
 
@@ -71,7 +71,7 @@ module _ (binds : List BindEntry) (edges : List Edge) (follow : (x : ℕ) (edge 
       ap (is_listed listed) f.from ∙ not_true_or (f.made_by.to == n) (is_listed listed f.made_by.from) m (eq-eqb f.made_by.to n t)
 
   module _ (asks : Edge → List ℕ) where
-    module _ (reached : (edge : Edge) (y : ℕ) → In y (asks edge) → (other : Edge) × (slice_get edges y ≡ Some other) × (other.to ≡ edge.from)) where
+    module _ (reached : (edge : Edge) (y : ℕ) → IsOneOf y (asks edge) → (other : Edge) × (slice_get edges y ≡ Some other) × (other.to ≡ edge.from)) where
       pub down_order : (listed ns known : List ℕ) → Knows source_end edges (is_listed listed) known → StandBehind binds listed ns → InOrder asks known (steps_down ns edges)
       down_order listed [] known k s = tt
       down_order listed (n ∷ ns) known k s =
@@ -116,7 +116,7 @@ module _ (binds : List BindEntry) (edges : List Edge) (follow : (x : ℕ) (edge 
         | inr (inr j) ↦ j
       ]
 
-  module _ (asks : Edge → List ℕ) (reached : (edge : Edge) (y : ℕ) → In y (asks edge) → (other : Edge) × (slice_get edges y ≡ Some other) × (other.from ≡ edge.to)) where
+  module _ (asks : Edge → List ℕ) (reached : (edge : Edge) (y : ℕ) → IsOneOf y (asks edge) → (other : Edge) × (slice_get edges y ≡ Some other) × (other.from ≡ edge.to)) where
     -- the steps up of the last nodes are in order, and know the edges that enter these nodes
     pub record GoesUp (ns : List ℕ) : Type 0 where
       pub order : InOrder asks [] (steps_up ns edges)

@@ -7,7 +7,7 @@ use Rattle.std.proofs.lemmas.Bool.{cases_eq, cases_lt}
 use Rattle.dip_graph.specs.declared.edges.Edge.{Edge}
 use Rattle.dip_negotiate.specs.declared.steps.Step.{Step}
 use Rattle.dip_negotiate.specs.Passes.{Pass, Refusal, refusal, stated, go_on, run, Holds}
-use Rattle.dip_negotiate.specs.Demands.{AllKept, gathered, IsBefore, IsKnown}
+use Rattle.dip_negotiate.specs.Demands.{AllKept, gathered, IsTakenBefore, IsKnown}
 use Rattle.dip_negotiate.specs.Turns.{GoesOn, InTurn, marked, StopsAt}
 use Rattle.dip_negotiate.proofs.Lookups.{get_set, get_set_other, same_picked, same_ports}
 use Rattle.dip_negotiate.proofs.Needed.{same_step}
@@ -16,7 +16,7 @@ use Rattle.dip_negotiate.proofs.Only.{gathered_all, holds_known, picked_known, p
 module _ {P : Type 0} (pass : Pass P) (edges : List Edge) (steps : List Step) (turns : InTurn pass edges steps) (d : List P) where
   -- the ports of all edges that are taken before a turn are these
   abbrev Agree : ℕ → List P → Type 0
-  Agree p ports = (k : ℕ) → IsBefore steps p k → slice_get ports k ≡ slice_get d k
+  Agree p ports = (k : ℕ) → IsTakenBefore steps p k → slice_get ports k ≡ slice_get d k
 
   abbrev Rest : ℕ → List Step → Type 0
   Rest p rest = (q : ℕ) → slice_get rest q ≡ slice_get steps (p + q)
@@ -121,7 +121,7 @@ module _ {P : Type 0} (pass : Pass P) (edges : List Edge) (steps : List Step) (t
   in_edges : (q : ℕ) (s : Step) → slice_get steps q ≡ Some s → s.number < length edges
   in_edges q s h = slice_get_within edges s.number s.edge (turns.sound q s h)
 
-  none_yet : (k : ℕ) → IsBefore steps 0 k → ⊥
+  none_yet : (k : ℕ) → IsTakenBefore steps 0 k → ⊥
   none_yet k b = low b.0 b.2
     where
       low : (q : ℕ) → q < 0 → ⊥

@@ -5,14 +5,14 @@ use Rattle.std.proofs.lemmas.List.{length-set}
 use Rattle.dip_graph.specs.declared.edges.Edge.{Edge}
 use Rattle.dip_negotiate.specs.declared.steps.Step.{Step}
 use Rattle.dip_negotiate.specs.Passes.{Pass, stated, Refusal, refusal, go_on, run, HoldAt, RefusesFirst}
-use Rattle.dip_negotiate.specs.Demands.{In}
+use Rattle.dip_negotiate.specs.Demands.{IsOneOf}
 use Rattle.dip_negotiate.proofs.Lookups.{get_set, get_set_other, same_picked}
 
 -- each step asks edges that are known, and makes the port of one that isn't
 abbrev pub InOrder : (Edge → List ℕ) → List ℕ → List Step → Type 0
 InOrder asks known [] = Unit {0}
 InOrder asks known (step ∷ steps) =
-    ((x : ℕ) → In x (asks step.edge) → In x known) × (In step.number known → ⊥) × InOrder asks (step.number ∷ known) steps
+    ((x : ℕ) → IsOneOf x (asks step.edge) → IsOneOf x known) × (IsOneOf step.number known → ⊥) × InOrder asks (step.number ∷ known) steps
 
 -- the numbers of edges that are known after steps
 abbrev pub known_after : List ℕ → List Step → List ℕ
@@ -25,7 +25,7 @@ Within count [] = Unit {0}
 Within count (step ∷ steps) = (step.number < count) × Within count steps
 
 abbrev pub Agree : {P : Type 0} → List ℕ → List P → List P → Type 0
-Agree known a b = (x : ℕ) → In x known → slice_get a x ≡ slice_get b x
+Agree known a b = (x : ℕ) → IsOneOf x known → slice_get a x ≡ slice_get b x
 
 same_ok : {P E : Type 0} (x y : P) → ◌≡◌ {A = Result P E} (Ok x) (Ok y) → x ≡ y
 same_ok x y e = cc
@@ -33,7 +33,7 @@ same_ok x y e = cc
 module _ {P : Type 0} (pass : Pass P) where
   -- what a pass leaves: the known ports as they were, and each step's equation
   pub record Done (known : List ℕ) (steps : List Step) (ports final : List P) : Type 0 where
-    pub kept : (x : ℕ) → In x known → slice_get final x ≡ slice_get ports x
+    pub kept : (x : ℕ) → IsOneOf x known → slice_get final x ≡ slice_get ports x
     pub long : length final ≡ length ports
     pub holds : HoldAt pass final steps
 
@@ -55,8 +55,8 @@ module _ {P : Type 0} (pass : Pass P) where
       at (Err n) a e f = absurd cc
       at (Ok port) a e f =
           let later = f port e in
-          let kept : (x : ℕ) → In x known → slice_get final x ≡ slice_get ports x =
-          λ x i. later.kept x (inr i) ∙ get_set_other ports step.number x port (λ q. o.1 (subst (λ y. In y known) q i)) in
+          let kept : (x : ℕ) → IsOneOf x known → slice_get final x ≡ slice_get ports x =
+          λ x i. later.kept x (inr i) ∙ get_set_other ports step.number x port (λ q. o.1 (subst (λ y. IsOneOf y known) q i)) in
           record {
             kept = kept;
             long = later.long ∙ length-set ports step.number port;
@@ -133,7 +133,7 @@ front_within count [] b w = tt
 front_within count (s ∷ a) b w = (w.0, front_within count a b w.1)
 
 -- what a step after others asks is known
-asks_known : (asks : Edge → List ℕ) (known : List ℕ) (a : List Step) (s : Step) (b : List Step) → InOrder asks known (a ++ s ∷ b) → (x : ℕ) → In x (asks s.edge) → In x (known_after known a)
+asks_known : (asks : Edge → List ℕ) (known : List ℕ) (a : List Step) (s : Step) (b : List Step) → InOrder asks known (a ++ s ∷ b) → (x : ℕ) → IsOneOf x (asks s.edge) → IsOneOf x (known_after known a)
 asks_known asks known [] s b o = o.0
 asks_known asks known (t ∷ a) s b o = asks_known asks (t.number ∷ known) a s b o.2
 

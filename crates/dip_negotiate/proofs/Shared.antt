@@ -17,7 +17,7 @@ use Rattle.dip_negotiate.specs.declared.steps.End.{End}
 use Rattle.dip_negotiate.specs.Passes.{Pass}
 use Rattle.dip_negotiate.specs.Places.{source_end, sink_end, belongs, joined_to, asked}
 use Rattle.dip_negotiate.specs.Negotiation.{down_at, up_at, down_pass, up_pass, place_of, says_down, says_up}
-use Rattle.dip_negotiate.specs.Demands.{first_at, firsts_of, places_of, same_end}
+use Rattle.dip_negotiate.specs.Demands.{first_at, firsts_of, end_places, same_end}
 use Rattle.dip_negotiate.specs.Turns.{AreShared, SameFirst}
 
 -- an end is its node and its port
@@ -187,10 +187,10 @@ module _ (rules : List StatedRule) (nodes : List NodeEntry) where
       by (Some (Source ports ids emits)) q = ap (λ k. up_at rules d.to d.to_port k outs) q ∙ ap (λ k. up_at rules d.to e.to_port k outs) (sym q) ∙ sym moved
       by (Some (Ruled kind args)) q = ap (λ k. up_at rules d.to d.to_port k outs) q ∙ ap (λ k. up_at rules d.to e.to_port k outs) (sym q) ∙ sym moved
 
-  pub down_shared : (edges : List Edge) (firsts : List ℕ) → firsts ≡ firsts_of (places_of rules nodes source_end edges) → AreShared (down_pass rules nodes edges) edges firsts
+  pub down_shared : (edges : List Edge) (firsts : List ℕ) → firsts ≡ firsts_of (end_places rules nodes source_end edges) → AreShared (down_pass rules nodes edges) edges firsts
   down_shared edges firsts q = shared (λ edge. place_of rules nodes (source_end edge)) edges (down_pass rules nodes edges) firsts q
       (λ d e h. asked_same source_end sink_end edges d e h) (λ d e h ins. says_down_same d e h ins)
 
-  pub up_shared : (edges : List Edge) (firsts : List ℕ) → firsts ≡ firsts_of (places_of rules nodes sink_end edges) → AreShared (up_pass rules nodes edges) edges firsts
+  pub up_shared : (edges : List Edge) (firsts : List ℕ) → firsts ≡ firsts_of (end_places rules nodes sink_end edges) → AreShared (up_pass rules nodes edges) edges firsts
   up_shared edges firsts q = shared (λ edge. place_of rules nodes (sink_end edge)) edges (up_pass rules nodes edges) firsts q
       (λ d e h. asked_same sink_end source_end edges d e h) (λ d e h outs. says_up_same d e h outs)

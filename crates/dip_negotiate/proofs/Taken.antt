@@ -6,7 +6,7 @@ use Rattle.dip_graph.specs.declared.edges.Edge.{Edge}
 use Rattle.dip_negotiate.specs.declared.steps.End.{End}
 use Rattle.dip_negotiate.specs.declared.steps.Step.{Step}
 use Rattle.dip_negotiate.specs.Places.{step, steps_at}
-use Rattle.dip_negotiate.specs.Demands.{In}
+use Rattle.dip_negotiate.specs.Demands.{IsOneOf}
 use Rattle.dip_negotiate.proofs.Runs.{InOrder, known_after}
 
 -- an edge with this number is a step
@@ -23,16 +23,16 @@ pub step_right : (x : ℕ) (edge : Edge) (a b : List Step) → IsStep x edge b �
 step_right x edge [] b h = h
 step_right x edge (s ∷ a) b h = inr (step_right x edge a b h)
 
-pub still_known : (x : ℕ) (known : List ℕ) (steps : List Step) → In x known → In x (known_after known steps)
+pub still_known : (x : ℕ) (known : List ℕ) (steps : List Step) → IsOneOf x known → IsOneOf x (known_after known steps)
 still_known x known [] h = h
 still_known x known (s ∷ steps) h = still_known x (s.number ∷ known) steps (inr h)
 
-pub known_step : (x : ℕ) (edge : Edge) (known : List ℕ) (steps : List Step) → IsStep x edge steps → In x (known_after known steps)
+pub known_step : (x : ℕ) (edge : Edge) (known : List ℕ) (steps : List Step) → IsStep x edge steps → IsOneOf x (known_after known steps)
 known_step x edge known [] h = absurd h
 known_step x edge known (s ∷ steps) (inl q) = still_known x (s.number ∷ known) steps (inl q.0)
 known_step x edge known (s ∷ steps) (inr i) = known_step x edge (s.number ∷ known) steps i
 
-pub known_from : (x : ℕ) (known : List ℕ) (steps : List Step) → In x (known_after known steps) → In x known ⊎ ((edge : Edge) × IsStep x edge steps)
+pub known_from : (x : ℕ) (known : List ℕ) (steps : List Step) → IsOneOf x (known_after known steps) → IsOneOf x known ⊎ ((edge : Edge) × IsStep x edge steps)
 known_from x known [] h = inl h
 known_from x known (s ∷ steps) h = elim (known_from x (s.number ∷ known) steps h) [
   | inl (inl q) ↦ inr (s.edge, inl (q, refl))
@@ -100,11 +100,11 @@ module _ (near : Edge → End) (node : ℕ) where
 
 -- the edges whose near ends are at nodes that pass a test are known, and no others
 pub record Knows (near : Edge → End) (edges : List Edge) (passes : ℕ → Bool) (known : List ℕ) : Type 0 where
-  pub has : (x : ℕ) (edge : Edge) → slice_get edges x ≡ Some edge → passes (near edge).node ≡ true → In x known
-  pub only : (x : ℕ) → In x known → (edge : Edge) × (slice_get edges x ≡ Some edge) × (passes (near edge).node ≡ true)
+  pub has : (x : ℕ) (edge : Edge) → slice_get edges x ≡ Some edge → passes (near edge).node ≡ true → IsOneOf x known
+  pub only : (x : ℕ) → IsOneOf x known → (edge : Edge) × (slice_get edges x ≡ Some edge) × (passes (near edge).node ≡ true)
 
 module _ (near far : Edge → End) (edges : List Edge) (asks : Edge → List ℕ)
-    (reached : (edge : Edge) (y : ℕ) → In y (asks edge) → (other : Edge) × (slice_get edges y ≡ Some other) × ((far other).node ≡ (near edge).node)) where
+    (reached : (edge : Edge) (y : ℕ) → IsOneOf y (asks edge) → (other : Edge) × (slice_get edges y ≡ Some other) × ((far other).node ≡ (near edge).node)) where
   -- all edges that reach a node come from nodes that pass
   abbrev pub IsFed : (ℕ → Bool) → ℕ → Type 0
   IsFed passes node = (x : ℕ) (edge : Edge) → slice_get edges x ≡ Some edge → (far edge).node ≡ node → passes (near edge).node ≡ true
@@ -114,8 +114,8 @@ module _ (near far : Edge → End) (edges : List Edge) (asks : Edge → List ℕ
 
   module _ (passes : ℕ → Bool) (node : ℕ) (new : passes node ≡ false) (fed : IsFed passes node) where
     node_order : (from : ℕ) (rest : List Edge) (known : List ℕ) → ((j : ℕ) → slice_get rest j ≡ slice_get edges (from + j))
-        → ((x : ℕ) (edge : Edge) → slice_get edges x ≡ Some edge → passes (near edge).node ≡ true → In x known)
-        → ((x : ℕ) → In x known → ((edge : Edge) × (slice_get edges x ≡ Some edge) × (passes (near edge).node ≡ true)) ⊎ (x < from))
+        → ((x : ℕ) (edge : Edge) → slice_get edges x ≡ Some edge → passes (near edge).node ≡ true → IsOneOf x known)
+        → ((x : ℕ) → IsOneOf x known → ((edge : Edge) × (slice_get edges x ≡ Some edge) × (passes (near edge).node ≡ true)) ⊎ (x < from))
         → InOrder asks known (steps_at near node from rest)
     node_order from [] known same has only = tt
     node_order from (e ∷ rest) known same has only =

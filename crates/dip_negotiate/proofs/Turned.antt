@@ -9,7 +9,7 @@ use Rattle.dip_negotiate.specs.declared.steps.Step.{Step}
 use Rattle.dip_negotiate.specs.Passes.{Pass}
 use Rattle.dip_negotiate.specs.Places.{steps_down, steps_up}
 use Rattle.dip_negotiate.specs.Negotiation.{IsNegotiable, down_pass, up_pass}
-use Rattle.dip_negotiate.specs.Demands.{In}
+use Rattle.dip_negotiate.specs.Demands.{IsOneOf}
 use Rattle.dip_negotiate.specs.Turns.{InTurn}
 use Rattle.dip_negotiate.proofs.Runs.{InOrder}
 use Rattle.dip_negotiate.proofs.Taken.{IsStep}
@@ -30,10 +30,10 @@ step_at (t ∷ steps) k edge (inr i) = let f = step_at steps k edge i in (suc f.
 
 module _ (asks : Edge → List ℕ) where
   -- what a step asks is known, or made by a step before it
-  asked_before : (known : List ℕ) (steps : List Step) → InOrder asks known steps → (q : ℕ) (s : Step) → slice_get steps q ≡ Some s → (y : ℕ) → In y (asks s.edge)
-      → In y known ⊎ ((r : ℕ) × (t : Step) × (r < q) × (slice_get steps r ≡ Some t) × (t.number ≡ y))
+  asked_before : (known : List ℕ) (steps : List Step) → InOrder asks known steps → (q : ℕ) (s : Step) → slice_get steps q ≡ Some s → (y : ℕ) → IsOneOf y (asks s.edge)
+      → IsOneOf y known ⊎ ((r : ℕ) × (t : Step) × (r < q) × (slice_get steps r ≡ Some t) × (t.number ≡ y))
   asked_before known [] o q s h y i = absurd cc
-  asked_before known (t ∷ steps) o zero s h y i = let e : t ≡ s = cc in inl (o.0 y (subst (λ (x : Step). In y (asks x.edge)) (sym e) i))
+  asked_before known (t ∷ steps) o zero s h y i = let e : t ≡ s = cc in inl (o.0 y (subst (λ (x : Step). IsOneOf y (asks x.edge)) (sym e) i))
   asked_before known (t ∷ steps) o (suc q) s h y i = elim (asked_before (t.number ∷ known) steps o.2 q s h y i) [
     | inl (inl e) ↦ inr (0, t, zero_less q, refl, sym e)
     | inl (inr j) ↦ inl j
@@ -47,9 +47,9 @@ module _ (asks : Edge → List ℕ) where
       more r l = omega arith
 
   -- a step's edge isn't known before it
-  is_new : (known : List ℕ) (steps : List Step) → InOrder asks known steps → (q : ℕ) (s : Step) → slice_get steps q ≡ Some s → In s.number known → ⊥
+  is_new : (known : List ℕ) (steps : List Step) → InOrder asks known steps → (q : ℕ) (s : Step) → slice_get steps q ≡ Some s → IsOneOf s.number known → ⊥
   is_new known [] o q s h i = absurd cc
-  is_new known (t ∷ steps) o zero s h i = let e : t ≡ s = cc in o.1 (subst (λ (x : Step). In x.number known) (sym e) i)
+  is_new known (t ∷ steps) o zero s h i = let e : t ≡ s = cc in o.1 (subst (λ (x : Step). IsOneOf x.number known) (sym e) i)
   is_new known (t ∷ steps) o (suc q) s h i = is_new (t.number ∷ known) steps o.2 q s h (inr i)
 
   is_once : (known : List ℕ) (steps : List Step) → InOrder asks known steps → (q r : ℕ) (s t : Step) → slice_get steps q ≡ Some s → slice_get steps r ≡ Some t → s.number ≡ t.number → q ≡ r

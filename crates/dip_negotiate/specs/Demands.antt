@@ -20,19 +20,19 @@ use Rattle.dip_negotiate.specs.Negotiation.{IsNegotiable, down_pass, up_pass, pl
 -- ---- on what a port depends
 
 -- the number is one of these
-abbrev pub In : ℕ → List ℕ → Type 0
-In x [] = ⊥
-In x (y ∷ ys) = (x ≡ y) ⊎ In x ys
+abbrev pub IsOneOf : ℕ → List ℕ → Type 0
+IsOneOf x [] = ⊥
+IsOneOf x (y ∷ ys) = (x ≡ y) ⊎ IsOneOf x ys
 
 -- a set of edges that has, with each edge, those whose ports are asked for its port
 abbrev pub IsClosed : {P : Type 0} → Pass P → List Edge → (ℕ → Bool) → Type 0
 IsClosed pass edges has =
-    (k : ℕ) (edge : Edge) → slice_get edges k ≡ Some edge → has k ≡ true → (y : ℕ) → In y (pass.asks edge)
+    (k : ℕ) (edge : Edge) → slice_get edges k ≡ Some edge → has k ≡ true → (y : ℕ) → IsOneOf y (pass.asks edge)
     → has y ≡ true
 
 -- the port of edge i depends on that of edge k, which may be i itself: k is in each such set that has i
-abbrev pub DependsOn : {P : Type 0} → Pass P → List Edge → ℕ → ℕ → Type 0
-DependsOn pass edges i k = (has : ℕ → Bool) → IsClosed pass edges has → has i ≡ true → has k ≡ true
+abbrev pub PortDependsOn : {P : Type 0} → Pass P → List Edge → ℕ → ℕ → Type 0
+PortDependsOn pass edges i k = (has : ℕ → Bool) → IsClosed pass edges has → has i ≡ true → has k ≡ true
 
 -- ---- equations of some of the edges
 
@@ -52,12 +52,12 @@ pub record OnlySolvesFor {P : Type 0} (pass : Pass P) (edges : List Edge) (Own :
 -- other edges nothing is said; they may be refused.
 pub record IsPortOf {P : Type 0} (pass : Pass P) (edges : List Edge) (i : ℕ) (port : P) : Type 0 where
   pub ports : List P
-  pub only : OnlySolvesFor pass edges (DependsOn pass edges i) ports
+  pub only : OnlySolvesFor pass edges (PortDependsOn pass edges i) ports
   pub here : slice_get ports i ≡ Some port
 
 -- the edge with this number is taken in a step before this turn
-abbrev pub IsBefore : List Step → ℕ → ℕ → Type 0
-IsBefore steps turn k =
+abbrev pub IsTakenBefore : List Step → ℕ → ℕ → Type 0
+IsTakenBefore steps turn k =
     (q : ℕ) × (s : Step) × (q < turn) × (slice_get steps q ≡ Some s) × (s.number ≡ k)
 
 -- The first refusal among these edges: an edge of them, in its turn. The equations of those of them that are taken
@@ -69,8 +69,8 @@ pub record IsFirstRefusal {P : Type 0} (pass : Pass P) (edges : List Edge) (step
   pub taken : slice_get steps turn ≡ Some (record { number = refused; edge = edge })
   pub own : Own refused
   pub ports : List P
-  pub before : SolvesFor pass edges (λ k. Own k × IsBefore steps turn k) ports
-  pub refuses : (others : List P) → SolvesFor pass edges (λ k. Own k × IsBefore steps turn k) others
+  pub before : SolvesFor pass edges (λ k. Own k × IsTakenBefore steps turn k) ports
+  pub refuses : (others : List P) → SolvesFor pass edges (λ k. Own k × IsTakenBefore steps turn k) others
       → stated pass others edge ≡ Err number
   pub unsolved : (others : List P) → SolvesFor pass edges Own others → ⊥
 
@@ -86,14 +86,14 @@ known_of known [] = []
 known_of known (k ∷ ks) = beside (get_or known k None) (known_of known ks)
 
 -- how many masters or slaves a port has, none where there is no port
-abbrev pub counted : {P : Type 0} → (P → ℕ) → Option P → ℕ
-counted count None = 0
-counted count (Some port) = count port
+abbrev pub port_entries : {P : Type 0} → (P → ℕ) → Option P → ℕ
+port_entries count None = 0
+port_entries count (Some port) = count port
 
 -- how many all known ports have together
-abbrev pub total : {P : Type 0} → (P → ℕ) → List (Option P) → ℕ
-total count [] = 0
-total count (port ∷ ports) = counted count port + total count ports
+abbrev pub all_entries : {P : Type 0} → (P → ℕ) → List (Option P) → ℕ
+all_entries count [] = 0
+all_entries count (port ∷ ports) = port_entries count port + all_entries count ports
 
 -- the known ports in the order of edges
 abbrev pub gathered : {P : Type 0} → List (Option P) → List P
@@ -146,8 +146,8 @@ abbrev pub firsts_of : List End → List ℕ
 firsts_of ends = map (λ end. first_at end ends) ends
 
 -- the places that give the ports of edges
-abbrev pub places_of : List StatedRule → List NodeEntry → (Edge → End) → List Edge → List End
-places_of rules nodes near edges = map (λ edge. place_of rules nodes (near edge)) edges
+abbrev pub end_places : List StatedRule → List NodeEntry → (Edge → End) → List Edge → List End
+end_places rules nodes near edges = map (λ edge. place_of rules nodes (near edge)) edges
 
 -- what is known of each edge, where a port is kept at the first edge whose port the same place gives
 abbrev pub seen : {P : Type 0} → List ℕ → List (Option P) → List (Option P)
@@ -157,7 +157,7 @@ seen firsts ports = map (λ first. get_or ports first None) firsts
 pub record IsDown (rules : List StatedRule) (design : Design) (edges : List Edge) (turns : Turns)
     (ports : List (Option DownPort)) : Type 0 where
   pub steps : turns.steps ≡ steps_down (canonical_order design) edges
-  pub firsts : turns.firsts ≡ firsts_of (places_of rules design.nodes source_end edges)
+  pub firsts : turns.firsts ≡ firsts_of (end_places rules design.nodes source_end edges)
   pub long : length ports ≡ length edges
   pub known : IsKnown (down_pass rules design.nodes edges) edges (seen turns.firsts ports)
 
@@ -165,7 +165,7 @@ pub record IsDown (rules : List StatedRule) (design : Design) (edges : List Edge
 pub record IsUp (rules : List StatedRule) (design : Design) (edges : List Edge) (turns : Turns)
     (ports : List (Option UpPort)) : Type 0 where
   pub steps : turns.steps ≡ steps_up (canonical_order design) edges
-  pub firsts : turns.firsts ≡ firsts_of (places_of rules design.nodes sink_end edges)
+  pub firsts : turns.firsts ≡ firsts_of (end_places rules design.nodes sink_end edges)
   pub long : length ports ≡ length edges
   pub known : IsKnown (up_pass rules design.nodes edges) edges (seen turns.firsts ports)
 
@@ -176,7 +176,7 @@ abbrev pub IsDownRefusal : List StatedRule → Design → List Edge → ℕ → 
 IsDownRefusal rules design edges i (DownRefused node port number) =
     (edge : Edge)
     × IsFirstRefusal (down_pass rules design.nodes edges) edges (steps_down (canonical_order design) edges)
-    (DependsOn (down_pass rules design.nodes edges) edges i) edge number
+    (PortDependsOn (down_pass rules design.nodes edges) edges i) edge number
     × (place_of rules design.nodes (source_end edge) ≡ record { node = node; port = port })
 IsDownRefusal rules design edges i (UpRefused node port number) = ⊥
 IsDownRefusal rules design edges i Memory = Unit {0}
@@ -187,7 +187,7 @@ IsUpRefusal rules design edges i (DownRefused node port number) = ⊥
 IsUpRefusal rules design edges i (UpRefused node port number) =
     (edge : Edge)
     × IsFirstRefusal (up_pass rules design.nodes edges) edges (steps_up (canonical_order design) edges)
-    (DependsOn (up_pass rules design.nodes edges) edges i) edge number
+    (PortDependsOn (up_pass rules design.nodes edges) edges i) edge number
     × (place_of rules design.nodes (sink_end edge) ≡ record { node = node; port = port })
 IsUpRefusal rules design edges i Memory = Unit {0}
 

@@ -9,7 +9,7 @@ use Rattle.tl_params.specs.declared.ports.UpPort.{UpPort}
 use Rattle.dip_negotiate.specs.declared.solution.Solution.{Solution}
 use Rattle.dip_negotiate.specs.Places.{steps_down, steps_up}
 use Rattle.dip_negotiate.specs.Negotiation.{IsNegotiable, IsOnlySolution, down_pass, up_pass}
-use Rattle.dip_negotiate.specs.Demands.{DependsOn, IsFirstRefusal, IsPortOf}
+use Rattle.dip_negotiate.specs.Demands.{PortDependsOn, IsFirstRefusal, IsPortOf}
 
 -- where there is a solution, a port that is answered is the solution's
 pub record DemandedPortLaw : Type 0 where
@@ -26,13 +26,13 @@ pub record DemandedPortLaw : Type 0 where
 abbrev pub RefusesDown : List StatedRule → Design → List Edge → ℕ → Edge → ℕ → Type 0
 RefusesDown rules design edges i edge number =
     IsFirstRefusal (down_pass rules design.nodes edges) edges (steps_down (canonical_order design) edges)
-    (DependsOn (down_pass rules design.nodes edges) edges i) edge number
+    (PortDependsOn (down_pass rules design.nodes edges) edges i) edge number
 
 -- what is refused up among them
 abbrev pub RefusesUp : List StatedRule → Design → List Edge → ℕ → Edge → ℕ → Type 0
 RefusesUp rules design edges i edge number =
     IsFirstRefusal (up_pass rules design.nodes edges) edges (steps_up (canonical_order design) edges)
-    (DependsOn (up_pass rules design.nodes edges) edges i) edge number
+    (PortDependsOn (up_pass rules design.nodes edges) edges i) edge number
 
 -- Of the ports on which one depends there is one first refusal at most, and where there is one no port is answered.
 pub record DemandRefusalLaw : Type 0 where

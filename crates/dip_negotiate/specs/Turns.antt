@@ -4,7 +4,7 @@ use Rattle.std.specs.Prelude.{Option, Some, Err}
 use Rattle.dip_graph.specs.declared.edges.Edge.{Edge}
 use Rattle.dip_negotiate.specs.declared.steps.Step.{Step}
 use Rattle.dip_negotiate.specs.Passes.{Pass}
-use Rattle.dip_negotiate.specs.Demands.{In, keeps, known_of}
+use Rattle.dip_negotiate.specs.Demands.{IsOneOf, keeps, known_of}
 
 -- The steps are all edges, each once and with its number, and each is behind those whose ports are asked for its port.
 pub record InTurn {P : Type 0} (pass : Pass P) (edges : List Edge) (steps : List Step) : Type 0 where
@@ -13,7 +13,7 @@ pub record InTurn {P : Type 0} (pass : Pass P) (edges : List Edge) (steps : List
       → (q : ℕ) × (slice_get steps q ≡ Some (record { number = k; edge = edge }))
   pub once : (q r : ℕ) (s t : Step) → slice_get steps q ≡ Some s → slice_get steps r ≡ Some t → s.number ≡ t.number
       → q ≡ r
-  pub behind : (q : ℕ) (s : Step) → slice_get steps q ≡ Some s → (y : ℕ) → In y (pass.asks s.edge)
+  pub behind : (q : ℕ) (s : Step) → slice_get steps q ≡ Some s → (y : ℕ) → IsOneOf y (pass.asks s.edge)
       → (r : ℕ) × (t : Step) × (r < q) × (slice_get steps r ≡ Some t) × (t.number ≡ y)
 
 -- Edges with the same first edge have the same equation.
@@ -46,7 +46,7 @@ gone_on known k asks marks = cond (is_wanted marks known k) (spread marks asks) 
 abbrev pub GoesOn : {P : Type 0} → Pass P → List Edge → List (Option P) → List Bool → Type 0
 GoesOn pass edges known marks =
     (k : ℕ) (edge : Edge) → slice_get edges k ≡ Some edge → marked marks k ≡ true → keeps known k ≡ false
-    → (y : ℕ) → In y (pass.asks edge) → marked marks y ≡ true
+    → (y : ℕ) → IsOneOf y (pass.asks edge) → marked marks y ≡ true
 
 -- The marks are of these edges, and mark all of them whose ports aren't known.
 pub record AreMarked {P : Type 0} (pass : Pass P) (edges : List Edge) (known : List (Option P)) (Own : ℕ → Type 0)
@@ -69,5 +69,5 @@ pub record StopsAt {P : Type 0} (pass : Pass P) (steps : List Step) (marks : Lis
   pub is_marked : marked marks refused ≡ true
   pub before : (q : ℕ) (s : Step) → q < turn → slice_get steps q ≡ Some s → marked marks s.number ≡ true
       → keeps known s.number ≡ true
-  pub asked : (y : ℕ) → In y (pass.asks edge) → keeps known y ≡ true
+  pub asked : (y : ℕ) → IsOneOf y (pass.asks edge) → keeps known y ≡ true
   pub refuses : pass.says edge (known_of known (pass.asks edge)) ≡ Err number

@@ -49,7 +49,8 @@ fn stated<P: Negotiated>(
 ) -> Result<P, RuleFault>
     requires { length edges.now < 2 ^ 32 }
     ensures list { IfOk result (λ port. P.count port ≤ 1048576) }
-    ensures together { IfOk result (λ port. P.count port + spec.total P.count ports.now ≤ P.MOST_ENTRIES) }
+    ensures together { IfOk result (λ port. P.count port + spec.all_entries P.count ports.now ≤
+        P.MOST_ENTRIES) }
     ensures value { Answers ((P.pass (⟦<Rules as Stating>⟧.stated rules.now) nodes.now edges.now).says
         edge.now (spec.known_of (spec.seen firsts.now ports.now)
         ((P.pass (⟦<Rules as Stating>⟧.stated rules.now) nodes.now edges.now).asks edge.now))) result }
@@ -140,15 +141,15 @@ pub fn demand<P: Negotiated>(
         edges.now (spec.seen firsts.now ports.new.items) }
     ensures stays { spec.Stays (spec.seen firsts.now ports.old.items) (spec.seen firsts.now
         ports.new.items) }
-    ensures only { spec.KeepsOnly (SameFirst firsts.now) (spec.DependsOn
+    ensures only { spec.KeepsOnly (SameFirst firsts.now) (spec.PortDependsOn
         (P.pass (⟦<Rules as Stating>⟧.stated rules.now) nodes.now edges.now) edges.now edge)
         (spec.seen firsts.now ports.old.items) (spec.seen firsts.now ports.new.items) }
-    ensures ok { OnOk result (spec.AllKept (spec.DependsOn
+    ensures ok { OnOk result (spec.AllKept (spec.PortDependsOn
         (P.pass (⟦<Rules as Stating>⟧.stated rules.now) nodes.now edges.now) edges.now edge)
         (spec.seen firsts.now ports.new.items)) }
     ensures refused { (refused : Edge) (number : ℕ) → result ≡ Err (fault.Refused refused number)
         → spec.IsFirstRefusal (P.pass (⟦<Rules as Stating>⟧.stated rules.now) nodes.now edges.now)
-        edges.now steps.now (spec.DependsOn (P.pass (⟦<Rules as Stating>⟧.stated rules.now) nodes.now
+        edges.now steps.now (spec.PortDependsOn (P.pass (⟦<Rules as Stating>⟧.stated rules.now) nodes.now
         edges.now) edges.now edge) refused number }
 {
     if keeps(firsts, ports, edge) {

@@ -51,7 +51,7 @@ pub fn keeps<P>(firsts: &[u32], ports: &[Option<P>], edge: u32) -> bool
 
 // What is left of the room for masters or slaves beside those of a port.
 fn room_beside<P: Negotiated>(port: Option<&P>, room: usize) -> Result<usize, Memory>
-    ensures { IfOk result (λ left. left + spec.counted P.count (option_copied port.entry) ≡ room) }
+    ensures { IfOk result (λ left. left + spec.port_entries P.count (option_copied port.entry) ≡ room) }
 {
     match port {
         Some(port) => room.checked_sub(port.entries()).ok_or(Memory),
@@ -63,7 +63,7 @@ fn room_beside<P: Negotiated>(port: Option<&P>, room: usize) -> Result<usize, Me
 /// list of more than 1,048,576, or more than `MOST_ENTRIES` together.
 pub fn make_room<P: Negotiated>(ports: &[Option<P>], entries: usize) -> Result<(), Memory>
     ensures list { OnOk result (entries ≤ 1048576) }
-    ensures together { OnOk result (entries + spec.total P.count ports.now ≤ P.MOST_ENTRIES) }
+    ensures together { OnOk result (entries + spec.all_entries P.count ports.now ≤ P.MOST_ENTRIES) }
 {
     if entries > MOST_ITEMS {
         return Err(Memory);

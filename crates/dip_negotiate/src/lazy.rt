@@ -236,11 +236,11 @@ impl<'a> Lazy<'a> {
             spec.seen self.old.up_turns.firsts self.old.up.items }
         ensures only { spec.KeepsOnly (spec.SharePlace (λ e. neg.place_of
             (⟦<Rules as Stating>⟧.stated self.old.rules.now) self.old.design.now.nodes (ends.source_end e))
-            self.old.edges.now) (spec.DependsOn (neg.down_pass (⟦<Rules as Stating>⟧.stated
+            self.old.edges.now) (spec.PortDependsOn (neg.down_pass (⟦<Rules as Stating>⟧.stated
             self.old.rules.now) self.old.design.now.nodes self.old.edges.now) self.old.edges.now edge)
             (spec.seen self.old.down_turns.firsts self.old.down.items)
             (spec.seen self.new.down_turns.firsts self.new.down.items) }
-        ensures ok { OnOk result (spec.AllKept (spec.DependsOn (neg.down_pass
+        ensures ok { OnOk result (spec.AllKept (spec.PortDependsOn (neg.down_pass
             (⟦<Rules as Stating>⟧.stated self.old.rules.now) self.old.design.now.nodes
             self.old.edges.now) self.old.edges.now edge) (spec.seen self.new.down_turns.firsts
             self.new.down.items)) }
@@ -287,11 +287,11 @@ impl<'a> Lazy<'a> {
             spec.seen self.old.down_turns.firsts self.old.down.items }
         ensures only { spec.KeepsOnly (spec.SharePlace (λ e. neg.place_of
             (⟦<Rules as Stating>⟧.stated self.old.rules.now) self.old.design.now.nodes (ends.sink_end e))
-            self.old.edges.now) (spec.DependsOn (neg.up_pass (⟦<Rules as Stating>⟧.stated
+            self.old.edges.now) (spec.PortDependsOn (neg.up_pass (⟦<Rules as Stating>⟧.stated
             self.old.rules.now) self.old.design.now.nodes self.old.edges.now) self.old.edges.now edge)
             (spec.seen self.old.up_turns.firsts self.old.up.items)
             (spec.seen self.new.up_turns.firsts self.new.up.items) }
-        ensures ok { OnOk result (spec.AllKept (spec.DependsOn (neg.up_pass
+        ensures ok { OnOk result (spec.AllKept (spec.PortDependsOn (neg.up_pass
             (⟦<Rules as Stating>⟧.stated self.old.rules.now) self.old.design.now.nodes
             self.old.edges.now) self.old.edges.now edge) (spec.seen self.new.up_turns.firsts
             self.new.up.items)) }

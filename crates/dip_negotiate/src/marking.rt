@@ -1,5 +1,5 @@
 ghost use Rattle.std.specs.Prelude.{◌≡◌, ◌<◌, ◌^◌, true, false, length, replicate, slice_set, All, IfOk, OnOk};
-ghost use Rattle.dip_negotiate.specs.Demands.{DependsOn, IsKnown, seen};
+ghost use Rattle.dip_negotiate.specs.Demands.{PortDependsOn, IsKnown, seen};
 ghost use Rattle.dip_negotiate.specs.Turns as spec;
 
 use crate::kept::keeps;
@@ -79,7 +79,7 @@ pub fn needed<P: Negotiated>(
     requires edge { edge < length edges.now }
     ensures { IfOk result (λ marks. spec.AreMarked (P.pass (⟦<Rules as Stating>⟧.stated rules.now)
         nodes.now edges.now) edges.now (seen firsts.now ports.now)
-        (DependsOn (P.pass (⟦<Rules as Stating>⟧.stated rules.now) nodes.now edges.now) edges.now edge)
+        (PortDependsOn (P.pass (⟦<Rules as Stating>⟧.stated rules.now) nodes.now edges.now) edges.now edge)
         marks.items) }
 {
     let mut marks = marks_of(alloc, edges.len(), false)?;

@@ -75,8 +75,8 @@ impl Negotiated for DownPort {
 
     ghost MOST_ENTRIES = { 8388608 };
 
-    // A master has 64 bytes, so all are half a gigabyte. An accepted design has at most 1,024 edges with 1,024
-    // masters each, since all ids are below 1,024.
+    // A master has 64 bytes, so all are half a gigabyte. An accepted design has at most 1,024 edges with
+    // 1,024 masters each, since all ids are below 1,024.
     const MOST_ENTRIES: usize = 8_388_608;
 
     fn near(edge: &Edge) -> End {
@@ -120,8 +120,8 @@ impl Negotiated for UpPort {
 
     ghost MOST_ENTRIES = { 2097152 };
 
-    // A slave has 144 bytes, so all are a third of a gigabyte. An accepted design has at most 1,024 edges with
-    // 1,024 slaves each, since each slave is a port of a sink and no edge shows one twice.
+    // A slave has 144 bytes, so all are a third of a gigabyte. An accepted design has at most 1,024 edges
+    // with 1,024 slaves each, since each slave is a port of a sink and no edge shows one twice.
     const MOST_ENTRIES: usize = 2_097_152;
 
     fn near(edge: &Edge) -> End {

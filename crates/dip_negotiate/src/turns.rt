@@ -64,13 +64,13 @@ pub fn place_of(rules: &Rules, nodes: &[NodeEntry], own: End) -> End
 }
 
 // The places that give the ports of edges.
-fn places_of<P: Negotiated>(
+fn end_places<P: Negotiated>(
     alloc: Global,
     rules: &Rules,
     nodes: &[NodeEntry],
     edges: &[Edge],
 ) -> Result<Ends, Memory>
-    ensures { IfOk result (λ ends. ends ≡ demands.places_of (⟦<Rules as Stating>⟧.stated rules.now)
+    ensures { IfOk result (λ ends. ends ≡ demands.end_places (⟦<Rules as Stating>⟧.stated rules.now)
         nodes.now P.near edges.now) }
 {
     let mut ends = Items::new(alloc);
@@ -88,9 +88,9 @@ pub fn sharing<P: Negotiated>(
     edges: &[Edge],
 ) -> Result<Numbers, Memory>
     requires { length edges.now < 2 ^ 32 }
-    ensures { IfOk result (λ firsts. firsts ≡ demands.firsts_of (demands.places_of
+    ensures { IfOk result (λ firsts. firsts ≡ demands.firsts_of (demands.end_places
         (⟦<Rules as Stating>⟧.stated rules.now) nodes.now P.near edges.now)) }
 {
-    let ends = places_of::<P>(alloc, rules, nodes, edges)?;
+    let ends = end_places::<P>(alloc, rules, nodes, edges)?;
     firsts_of(alloc, ends.as_slice())
 }

@@ -8,8 +8,9 @@ pub fn edges_law()
     ensures ports { EachTakesTheNextPorts }
 {}
 
-/// Where no node fails, a source and a sink have an edge for each port, an adapter has as many edges in as out
-/// and at least one, and a nexus has one on each side. The ports of a node are 0, 1, .. in the order of edges.
+/// Where no node fails, a source and a sink have an edge for each port, an adapter has as many edges in as
+/// out and at least one, and a nexus has one on each side. The ports of a node are 0, 1, .. in the order of
+/// edges.
 pub fn filled_law()
     ensures edges { EachHasItsEdges }
     ensures ports { EachHasItsPorts }

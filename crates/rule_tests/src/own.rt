@@ -10,8 +10,8 @@ use std::rc::Rc;
 use tl_params::{Args, DownPort, UpPort};
 use tl_rules::{buffer_down, buffer_up};
 
-/// Answers as a buffer does, and counts how often it is asked. The first asking after `short` was set finds no
-/// memory.
+/// Answers as a buffer does, and counts how often it is asked. The first asking after `short` was set finds
+/// no memory.
 #[derive(Drop)]
 pub struct Counting {
     pub alloc: Global,

@@ -24,8 +24,8 @@ pub fn rules_fit_law()
     ensures { RulesFitLaw }
 {}
 
-/// The bus above a width adapter is as wide as its argument says, that above a crossbar as its first output's,
-/// and what a master above a shrinker emits the one below emits too.
+/// The bus above a width adapter is as wide as its argument says, that above a crossbar as its first
+/// output's, and what a master above a shrinker emits the one below emits too.
 pub fn rules_answer_law()
     ensures { RulesAnswerLaw }
 {}

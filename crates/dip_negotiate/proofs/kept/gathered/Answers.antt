@@ -1,6 +1,6 @@
 use Rattle.std.proofs.Common.{◌+◌, None, [], ◌++◌, ◌∙◌, ap, sym, get_or, drop}
 use Rattle.dip_negotiate.specs.Passes.{beside}
-use Rattle.dip_negotiate.specs.Demands.{counted, seen}
+use Rattle.dip_negotiate.specs.Demands.{port_entries, seen}
 use Rattle.dip_negotiate.proofs.Gathering.{on}
 use Rattle.dip_negotiate.proofs.Seen.{seen_apart}
 use Rattle.dip_negotiate.proofs.kept.gathered.Goals as goal
@@ -10,7 +10,7 @@ pub loop-edge-preserved : goal.loop-edge-preserved
 loop-edge-preserved g c =
     let first = get_or c.args.firsts.now c.loop-edge.edge 0 in
     let port = c.at.ensures ∙ ap (λ xs. get_or xs first None) c.deref.ensures.value in
-    let room = ap (λ o. c.in_ok-room.room + counted g.P.Negotiated.count o) (sym port) ∙ c.in_ok-room.ensures in
+    let room = ap (λ o. c.in_ok-room.room + port_entries g.P.Negotiated.count o) (sym port) ∙ c.in_ok-room.ensures in
     elim c.if-stands_behind.branch [
       | then-stands_behind+in_ok-pick w ↦ (
           let copied = w.at-then-stands_behind.ensures ∙ ap (λ xs. get_or xs first None) w.deref-then-stands_behind.ensures.value in

@@ -2,7 +2,7 @@ use Rattle.std.proofs.Common.{ap, ◌∙◌, Err}
 use Rattle.dip_rule.specs.Boxed.{stated_by}
 use Rattle.dip_negotiate.specs.Places.{sink_end}
 use Rattle.dip_negotiate.specs.Negotiation.{up_pass, place_of}
-use Rattle.dip_negotiate.specs.Demands.{DependsOn, seen}
+use Rattle.dip_negotiate.specs.Demands.{PortDependsOn, seen}
 use Rattle.dip_negotiate.proofs.Turned.{up_in_turn}
 use Rattle.dip_negotiate.proofs.Shared.{up_shared}
 use Rattle.dip_negotiate.proofs.Lazily.{up_refusal, shared_only}
@@ -25,7 +25,7 @@ returns-in-Ok-clause-only g c =
     let turns = up_in_turn rules c.args.self.now.design.now c.args.self.now.edges.now c.requires.is.negotiable c.args.self.now.up_turns.steps c.requires.is.is_up.steps in
     let firsts = c.args.self.now.up_turns.firsts in
     shared_only (λ e. place_of rules c.args.self.now.design.now.nodes (sink_end e)) c.args.self.now.edges.now firsts c.requires.is.is_up.firsts
-    (DependsOn (up_pass rules c.args.self.now.design.now.nodes c.args.self.now.edges.now) c.args.self.now.edges.now c.args.edge)
+    (PortDependsOn (up_pass rules c.args.self.now.design.now.nodes c.args.self.now.edges.now) c.args.self.now.edges.now c.args.edge)
     (seen firsts c.args.self.now.up.items) (seen firsts c.demand.new.ports.items)
     (rw (← c.as_slice-edges.ensures, ← c.as_slice-firsts.ensures) c.demand.ensures.known.long)
     (depended_within (up_pass rules c.args.self.now.design.now.nodes c.args.self.now.edges.now) c.args.self.now.edges.now c.args.self.now.up_turns.steps turns c.args.edge c.requires.edge)
@@ -40,7 +40,7 @@ returns-in-Err-clause-only g c =
     let turns = up_in_turn rules c.args.self.now.design.now c.args.self.now.edges.now c.requires.is.negotiable c.args.self.now.up_turns.steps c.requires.is.is_up.steps in
     let firsts = c.args.self.now.up_turns.firsts in
     shared_only (λ e. place_of rules c.args.self.now.design.now.nodes (sink_end e)) c.args.self.now.edges.now firsts c.requires.is.is_up.firsts
-    (DependsOn (up_pass rules c.args.self.now.design.now.nodes c.args.self.now.edges.now) c.args.self.now.edges.now c.args.edge)
+    (PortDependsOn (up_pass rules c.args.self.now.design.now.nodes c.args.self.now.edges.now) c.args.self.now.edges.now c.args.edge)
     (seen firsts c.args.self.now.up.items) (seen firsts c.demand.new.ports.items)
     (rw (← c.as_slice-edges.ensures, ← c.as_slice-firsts.ensures) c.demand.ensures.known.long)
     (depended_within (up_pass rules c.args.self.now.design.now.nodes c.args.self.now.edges.now) c.args.self.now.edges.now c.args.self.now.up_turns.steps turns c.args.edge c.requires.edge)

@@ -1,9 +1,0 @@
-use Rattle.std.proofs.Common.{◌≡◌, ◌++◌, drop}
-use Rattle.dip_rule.specs.Boxed.{stated_by}
-use Rattle.dip_negotiate.specs.Demands.{places_of}
-use Rattle.dip_negotiate.proofs.turns.places_of.Given as goal
-
-abbrev pub invariant-loop-edge : goal.invariant-loop-edge
-invariant-loop-edge g l =
-    l.ends ++ places_of (stated_by (goal.Rule-dyn g) l.rules) l.nodes g.P.Negotiated.near (drop l.edge-index l.edges)
-    ≡ places_of (stated_by (goal.Rule-dyn g) l.rules) l.nodes g.P.Negotiated.near l.edges
