@@ -18,7 +18,7 @@ use Rattle.dip_rule.specs.Stated.{StatedRule}
 use Rattle.dip_negotiate.specs.Passes.{Pass, Refusal, refusal}
 use Rattle.dip_negotiate.specs.Places.{source_end, sink_end, steps_down, steps_up}
 use Rattle.dip_negotiate.specs.Negotiation.{down_pass, up_pass, downs, ups, place_of, IsDownFault, IsUpFault, IsNegotiable, IsOnlySolution, IsRefusalAt}
-use Rattle.dip_negotiate.specs.Demands.{PortDependsOn, IsDown, IsDownRefusal, IsFirstRefusal, IsUp, IsUpRefusal, firsts_of, end_places, IsKnown, IsPortOf, keeps, KeepsNone, KeepsOnly, seen, SharePlace}
+use Rattle.dip_negotiate.specs.Demands.{PortDependsOn, IsDown, IsDownRefusal, IsFirstRefusal, IsUp, IsUpRefusal, first_shares, end_places, IsKnown, IsPortOf, keeps, KeepsNone, KeepsOnly, seen, SharePlace}
 use Rattle.dip_negotiate.specs.Turns.{InTurn, SameFirst}
 use Rattle.dip_negotiate.proofs.Needed.{not_both}
 use Rattle.dip_negotiate.proofs.Only.{port_of}
@@ -57,7 +57,7 @@ some_port pass edges steps turns i known is None e = tt
 some_port pass edges steps turns i known is (Some b) e = port_of pass edges steps turns i known b.now is (sym e)
 
 -- what came to be kept, in words of places
-pub shared_only : {P : Type 0} (place : Edge → End) (edges : List Edge) (firsts : List ℕ) → firsts ≡ firsts_of (map place edges) → (Own : ℕ → Type 0)
+pub shared_only : {P : Type 0} (place : Edge → End) (edges : List Edge) (firsts : List ℕ) → firsts ≡ first_shares (map place edges) → (Own : ℕ → Type 0)
     → (old new : List (Option P)) → length new ≡ length edges → ((j : ℕ) → Own j → j < length edges) → KeepsOnly (SameFirst firsts) Own old new → KeepsOnly (SharePlace place edges) Own old new
 shared_only place edges firsts q Own old new long within o k h = elim (o k h) [
   | inl t ↦ inl t
@@ -96,7 +96,7 @@ up_refusal rules design edges i Memory r first at_ memory = subst (λ (x : NegFa
 
 module _ (rules : List StatedRule) (design : Design) (edges : List Edge) where
   pub first_down : (steps : List Step) (firsts : List ℕ) (ports : List (Option DownPort)) → steps ≡ steps_down (canonical_order design) edges
-      → firsts ≡ firsts_of (end_places rules design.nodes source_end edges) → ports ≡ replicate (length edges) None
+      → firsts ≡ first_shares (end_places rules design.nodes source_end edges) → ports ≡ replicate (length edges) None
       → IsDown rules design edges (record { steps = steps; firsts = firsts }) ports
   first_down steps firsts ports s f q = record {
     steps = s;
@@ -106,7 +106,7 @@ module _ (rules : List StatedRule) (design : Design) (edges : List Edge) where
   }
 
   pub first_up : (steps : List Step) (firsts : List ℕ) (ports : List (Option UpPort)) → steps ≡ steps_up (canonical_order design) edges
-      → firsts ≡ firsts_of (end_places rules design.nodes sink_end edges) → ports ≡ replicate (length edges) None
+      → firsts ≡ first_shares (end_places rules design.nodes sink_end edges) → ports ≡ replicate (length edges) None
       → IsUp rules design edges (record { steps = steps; firsts = firsts }) ports
   first_up steps firsts ports s f q = record {
     steps = s;

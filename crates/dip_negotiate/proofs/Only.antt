@@ -6,7 +6,7 @@ use Rattle.std.proofs.lemmas.Bool.{ltb-true, lt-ltb}
 use Rattle.dip_graph.specs.declared.edges.Edge.{Edge}
 use Rattle.dip_negotiate.specs.declared.steps.Step.{Step}
 use Rattle.dip_negotiate.specs.Passes.{Pass, beside, picked, stated, Holds}
-use Rattle.dip_negotiate.specs.Demands.{AllKept, PortDependsOn, gathered, IsOneOf, IsTakenBefore, IsClosed, IsFirstRefusal, IsKnown, IsPortOf, keeps, KeepsOnly, known_of, OnlySolvesFor, SolvesFor, Stays}
+use Rattle.dip_negotiate.specs.Demands.{AllKept, PortDependsOn, kept_ports, IsOneOf, IsTakenBefore, IsClosed, IsFirstRefusal, IsKnown, IsPortOf, keeps, KeepsOnly, known_of, OnlySolvesFor, SolvesFor, Stays}
 use Rattle.dip_negotiate.specs.Turns.{AreMarked, InTurn, marked, StopsAt}
 use Rattle.dip_negotiate.proofs.Lookups.{same_picked}
 use Rattle.dip_negotiate.proofs.Needed.{asked_by, not_both}
@@ -38,15 +38,15 @@ picked_known blank known (y ∷ ys) h =
     let p = port_kept known y (h y (inl refl)) in
     ap (λ o. beside o (picked (ports_of blank known) ys)) (port_in blank known y p.0 p.1 ∙ sym p.1) ∙ ap (λ xs. beside (get_or known y None) xs) (picked_known blank known ys (λ z i. h z (inr i)))
 
-pub gathered_all : {P : Type 0} (blank : P) (known : List (Option P)) → ((k : ℕ) → k < length known → keeps known k ≡ true) → gathered known ≡ ports_of blank known
+pub gathered_all : {P : Type 0} (blank : P) (known : List (Option P)) → ((k : ℕ) → k < length known → keeps known k ≡ true) → kept_ports known ≡ ports_of blank known
 gathered_all blank [] h = refl
 gathered_all {P = P} blank (o ∷ known) h = at o refl ∙ ap (λ xs. unwrap_or o blank ∷ xs) (gathered_all blank known (λ k l. h (suc k) (omega arith)))
   where
     none : (x : Option P) → x ≡ None → is_some x ≡ true → ⊥
     none x e t = not_both (is_some x) t (ap is_some e)
 
-    at : (x : Option P) → o ≡ x → gathered (o ∷ known) ≡ unwrap_or o blank ∷ gathered known
-    at (Some port) e = ap (λ y. beside y (gathered known)) e ∙ ap (λ y. unwrap_or y blank ∷ gathered known) (sym e)
+    at : (x : Option P) → o ≡ x → kept_ports (o ∷ known) ≡ unwrap_or o blank ∷ kept_ports known
+    at (Some port) e = ap (λ y. beside y (kept_ports known)) e ∙ ap (λ y. unwrap_or y blank ∷ kept_ports known) (sym e)
     at None e = absurd (none o e (h 0 (omega arith)))
 
 -- a set of edges that has, with each of them, those that are asked for its port

@@ -7,7 +7,7 @@ use Rattle.std.proofs.lemmas.Bool.{cases_eq, cases_lt}
 use Rattle.dip_graph.specs.declared.edges.Edge.{Edge}
 use Rattle.dip_negotiate.specs.declared.steps.Step.{Step}
 use Rattle.dip_negotiate.specs.Passes.{Pass, Refusal, refusal, stated, go_on, run, Holds}
-use Rattle.dip_negotiate.specs.Demands.{AllKept, gathered, IsTakenBefore, IsKnown}
+use Rattle.dip_negotiate.specs.Demands.{AllKept, kept_ports, IsTakenBefore, IsKnown}
 use Rattle.dip_negotiate.specs.Turns.{GoesOn, InTurn, marked, StopsAt}
 use Rattle.dip_negotiate.proofs.Lookups.{get_set, get_set_other, same_picked, same_ports}
 use Rattle.dip_negotiate.proofs.Needed.{same_step}
@@ -130,7 +130,7 @@ module _ {P : Type 0} (pass : Pass P) (edges : List Edge) (steps : List Step) (t
   whole_rest : (q : ℕ) → slice_get steps q ≡ slice_get steps (0 + q)
   whole_rest q = let e : q ≡ 0 + q = omega arith in ap (slice_get steps) e
 
-  pub all_gathered : (ms : List Bool) → ms ≡ replicate (length edges) true → AllKept (λ k. marked ms k ≡ true) known → run pass (replicate (length edges) blank) steps ≡ Ok (gathered known)
+  pub all_gathered : (ms : List Bool) → ms ≡ replicate (length edges) true → AllKept (λ k. marked ms k ≡ true) known → run pass (replicate (length edges) blank) steps ≡ Ok (kept_ports known)
   all_gathered ms q a =
       run_all pass edges steps turns (ports_of blank known) (length-map known _ ∙ is.long)
       (λ p s h. holds_known pass edges steps turns known is blank s.number s.edge (turns.sound p s h) (a s.number (all_true (length edges) s.number ms q (in_edges p s h))))

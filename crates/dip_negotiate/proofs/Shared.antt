@@ -17,7 +17,7 @@ use Rattle.dip_negotiate.specs.declared.steps.End.{End}
 use Rattle.dip_negotiate.specs.Passes.{Pass}
 use Rattle.dip_negotiate.specs.Places.{source_end, sink_end, belongs, joined_to, asked}
 use Rattle.dip_negotiate.specs.Negotiation.{down_at, up_at, down_pass, up_pass, place_of, says_down, says_up}
-use Rattle.dip_negotiate.specs.Demands.{first_at, firsts_of, end_places, same_end}
+use Rattle.dip_negotiate.specs.Demands.{first_at, first_shares, end_places, same_end}
 use Rattle.dip_negotiate.specs.Turns.{AreShared, SameFirst}
 
 -- an end is its node and its port
@@ -68,7 +68,7 @@ module _ (place : Edge → End) (edges : List Edge) where
           by (Some x) = Some (place x)
       at (e ∷ es) (suc k) h = at es k h
 
-  first_is : (k : ℕ) (edge : Edge) → slice_get edges k ≡ Some edge → get_or (firsts_of (map place edges)) k 0 ≡ first_at (place edge) (map place edges)
+  first_is : (k : ℕ) (edge : Edge) → slice_get edges k ≡ Some edge → get_or (first_shares (map place edges)) k 0 ≡ first_at (place edge) (map place edges)
   first_is k edge h = at (map place edges) k (end_at k edge h)
     where
       at : (xs : List End) (k : ℕ) → slice_get xs k ≡ Some (place edge) → get_or (map (λ end. first_at end (map place edges)) xs) k 0 ≡ first_at (place edge) (map place edges)
@@ -77,7 +77,7 @@ module _ (place : Edge → End) (edges : List Edge) where
       at (x ∷ xs) (suc k) h = at xs k h
 
   -- edges with the same first edge have the same place
-  pub one_place : (j k : ℕ) (d e : Edge) → slice_get edges j ≡ Some d → slice_get edges k ≡ Some e → SameFirst (firsts_of (map place edges)) j k → place d ≡ place e
+  pub one_place : (j k : ℕ) (d e : Edge) → slice_get edges j ≡ Some d → slice_get edges k ≡ Some e → SameFirst (first_shares (map place edges)) j k → place d ≡ place e
   one_place j k d e hd he q =
       let a = first_has (place d) (map place edges) j (end_at j d hd) in
       let b = first_has (place e) (map place edges) k (end_at k e he) in
@@ -87,13 +87,13 @@ module _ (place : Edge → End) (edges : List Edge) where
       same_some : (a b : End) → ◌≡◌ {A = Option End} (Some a) (Some b) → a ≡ b
       same_some a b e = cc
 
-  first_within : (k : ℕ) (edge : Edge) → slice_get edges k ≡ Some edge → get_or (firsts_of (map place edges)) k 0 < length edges
+  first_within : (k : ℕ) (edge : Edge) → slice_get edges k ≡ Some edge → get_or (first_shares (map place edges)) k 0 < length edges
   first_within k edge h =
       let a = first_has (place edge) (map place edges) k (end_at k edge h) in
       let l = slice_get_within (map place edges) (first_at (place edge) (map place edges)) (place edge) a in
       subst (λ n. n < length edges) (sym (first_is k edge h)) (subst (λ n. first_at (place edge) (map place edges) < n) (length-map edges place) l)
 
-  pub shared : {P : Type 0} (pass : Pass P) (firsts : List ℕ) → firsts ≡ firsts_of (map place edges)
+  pub shared : {P : Type 0} (pass : Pass P) (firsts : List ℕ) → firsts ≡ first_shares (map place edges)
       → ((d e : Edge) → place d ≡ place e → pass.asks d ≡ pass.asks e) → ((d e : Edge) → place d ≡ place e → (ports : List P) → pass.says d ports ≡ pass.says e ports)
       → AreShared pass edges firsts
   shared pass firsts q a s = subst (λ fs. AreShared pass edges fs) (sym q) (record {
@@ -187,10 +187,10 @@ module _ (rules : List StatedRule) (nodes : List NodeEntry) where
       by (Some (Source ports ids emits)) q = ap (λ k. up_at rules d.to d.to_port k outs) q ∙ ap (λ k. up_at rules d.to e.to_port k outs) (sym q) ∙ sym moved
       by (Some (Ruled kind args)) q = ap (λ k. up_at rules d.to d.to_port k outs) q ∙ ap (λ k. up_at rules d.to e.to_port k outs) (sym q) ∙ sym moved
 
-  pub down_shared : (edges : List Edge) (firsts : List ℕ) → firsts ≡ firsts_of (end_places rules nodes source_end edges) → AreShared (down_pass rules nodes edges) edges firsts
+  pub down_shared : (edges : List Edge) (firsts : List ℕ) → firsts ≡ first_shares (end_places rules nodes source_end edges) → AreShared (down_pass rules nodes edges) edges firsts
   down_shared edges firsts q = shared (λ edge. place_of rules nodes (source_end edge)) edges (down_pass rules nodes edges) firsts q
       (λ d e h. asked_same source_end sink_end edges d e h) (λ d e h ins. says_down_same d e h ins)
 
-  pub up_shared : (edges : List Edge) (firsts : List ℕ) → firsts ≡ firsts_of (end_places rules nodes sink_end edges) → AreShared (up_pass rules nodes edges) edges firsts
+  pub up_shared : (edges : List Edge) (firsts : List ℕ) → firsts ≡ first_shares (end_places rules nodes sink_end edges) → AreShared (up_pass rules nodes edges) edges firsts
   up_shared edges firsts q = shared (λ edge. place_of rules nodes (sink_end edge)) edges (up_pass rules nodes edges) firsts q
       (λ d e h. asked_same sink_end source_end edges d e h) (λ d e h outs. says_up_same d e h outs)

@@ -96,9 +96,9 @@ all_entries count [] = 0
 all_entries count (port ∷ ports) = port_entries count port + all_entries count ports
 
 -- the known ports in the order of edges
-abbrev pub gathered : {P : Type 0} → List (Option P) → List P
-gathered [] = []
-gathered (port ∷ known) = beside port (gathered known)
+abbrev pub kept_ports : {P : Type 0} → List (Option P) → List P
+kept_ports [] = []
+kept_ports (port ∷ known) = beside port (kept_ports known)
 
 -- What is known is what may be: with each port, those that are asked for it are known, and it is what is stated of
 -- them.
@@ -142,8 +142,8 @@ first_at end [] = 0
 first_at end (x ∷ ends) = cond (same_end x end) 0 (first_at end ends + 1)
 
 -- for each of some ends the first of them that is the same
-abbrev pub firsts_of : List End → List ℕ
-firsts_of ends = map (λ end. first_at end ends) ends
+abbrev pub first_shares : List End → List ℕ
+first_shares ends = map (λ end. first_at end ends) ends
 
 -- the places that give the ports of edges
 abbrev pub end_places : List StatedRule → List NodeEntry → (Edge → End) → List Edge → List End
@@ -157,7 +157,7 @@ seen firsts ports = map (λ first. get_or ports first None) firsts
 pub record IsDown (rules : List StatedRule) (design : Design) (edges : List Edge) (turns : Turns)
     (ports : List (Option DownPort)) : Type 0 where
   pub steps : turns.steps ≡ steps_down (canonical_order design) edges
-  pub firsts : turns.firsts ≡ firsts_of (end_places rules design.nodes source_end edges)
+  pub firsts : turns.firsts ≡ first_shares (end_places rules design.nodes source_end edges)
   pub long : length ports ≡ length edges
   pub known : IsKnown (down_pass rules design.nodes edges) edges (seen turns.firsts ports)
 
@@ -165,7 +165,7 @@ pub record IsDown (rules : List StatedRule) (design : Design) (edges : List Edge
 pub record IsUp (rules : List StatedRule) (design : Design) (edges : List Edge) (turns : Turns)
     (ports : List (Option UpPort)) : Type 0 where
   pub steps : turns.steps ≡ steps_up (canonical_order design) edges
-  pub firsts : turns.firsts ≡ firsts_of (end_places rules design.nodes sink_end edges)
+  pub firsts : turns.firsts ≡ first_shares (end_places rules design.nodes sink_end edges)
   pub long : length ports ≡ length edges
   pub known : IsKnown (up_pass rules design.nodes edges) edges (seen turns.firsts ports)
 

@@ -6,7 +6,7 @@ ghost use Rattle.dip_negotiate.specs.Demands as spec;
 ghost use Rattle.dip_negotiate.specs.Turns.{AreShared, GoesOn, InTurn, SameFirst, StopsAt, marked};
 ghost use Rattle.dip_negotiate.specs.declared.demands.PassFault.TheVariants as fault;
 
-use crate::kept::{gathered, keep, keeps, make_room, picked};
+use crate::kept::{keep, keeps, kept_ports, make_room, picked};
 use crate::marking::{marks_of, needed, wants};
 use crate::negotiated::Negotiated;
 use crate::steps::Step;
@@ -193,7 +193,7 @@ pub fn all_ports<P: Negotiated>(
         alloc, rules, nodes, edges, steps, firsts, &marks, &mut ports,
     ) {
         Err(fault) => Err(fault),
-        Ok(()) => match gathered(alloc, firsts, ports) {
+        Ok(()) => match kept_ports(alloc, firsts, ports) {
             Ok(all) => Ok(all),
             Err(_) => Err(PassFault::Memory),
         },

@@ -147,12 +147,12 @@ fn take<P: Negotiated>(
 /// The ports of all edges, of those that are known, each copied for all edges of its place but the last;
 /// `Memory` where they have more than `MOST_ENTRIES` masters or slaves together.
 #[tactic(auto, using(crate::proofs::Picks::beside_more))]
-pub fn gathered<P: Negotiated>(
+pub fn kept_ports<P: Negotiated>(
     alloc: Global,
     firsts: &[u32],
     ports: Vec<Option<P>>,
 ) -> Result<Items<P>, Memory>
-    ensures value { IfOk result (λ some. some ≡ spec.gathered (spec.seen firsts.now ports.items)) }
+    ensures value { IfOk result (λ some. some ≡ spec.kept_ports (spec.seen firsts.now ports.items)) }
     ensures bounded { IfOk result (λ some. sum (map P.count some) ≤ P.MOST_ENTRIES) }
 {
     let mut ports = ports;

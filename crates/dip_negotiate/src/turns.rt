@@ -41,9 +41,9 @@ fn first_at(end: End, ends: &[End]) -> usize
 }
 
 /// For each of some ends the first of them that is the same.
-fn firsts_of(alloc: Global, ends: &[End]) -> Result<Numbers, Memory>
+fn first_shares(alloc: Global, ends: &[End]) -> Result<Numbers, Memory>
     requires { length ends.now < 2 ^ 32 }
-    ensures { IfOk result (λ firsts. firsts ≡ demands.firsts_of ends.now) }
+    ensures { IfOk result (λ firsts. firsts ≡ demands.first_shares ends.now) }
 {
     let mut firsts = Items::new(alloc);
     for end in ends {
@@ -88,9 +88,9 @@ pub fn sharing<P: Negotiated>(
     edges: &[Edge],
 ) -> Result<Numbers, Memory>
     requires { length edges.now < 2 ^ 32 }
-    ensures { IfOk result (λ firsts. firsts ≡ demands.firsts_of (demands.end_places
+    ensures { IfOk result (λ firsts. firsts ≡ demands.first_shares (demands.end_places
         (⟦<Rules as Stating>⟧.stated rules.now) nodes.now P.near edges.now)) }
 {
     let ends = end_places::<P>(alloc, rules, nodes, edges)?;
-    firsts_of(alloc, ends.as_slice())
+    first_shares(alloc, ends.as_slice())
 }

@@ -18,9 +18,9 @@ returns-in-Err-clause-refused g c refused number e =
     all_stopped pass c.args.edges.now c.args.steps.now c.requires.in_turn g.P.Negotiated.unknown (seen c.args.firsts.now c.ask_marked.new.ports.items) c.ask_marked.ensures.known c.deref.result.now
     (c.deref.ensures.value ∙ c.in-Ok.ensures) refused number (c.ask_marked.ensures.refused refused number (c.in-Err.is ∙ ap Err q))
 
-pub returns-in-Ok-gathered-clause-ok : goal.returns-in-Ok-gathered-clause-ok
-returns-in-Ok-gathered-clause-ok g c =
+pub returns-in-Ok-kept_ports-clause-ok : goal.returns-in-Ok-kept_ports-clause-ok
+returns-in-Ok-kept_ports-clause-ok g c =
     let pass = g.P.Negotiated.pass (stated_by (goal.Rule-dyn g) c.args.rules.now) c.args.nodes.now c.args.edges.now in
     let is = all_gathered pass c.args.edges.now c.args.steps.now c.requires.in_turn g.P.Negotiated.unknown (seen c.args.firsts.now c.ask_marked.new.ports.items) c.ask_marked.ensures.known c.deref.result.now
     (c.deref.ensures.value ∙ c.in-Ok.ensures) c.in-Ok-ask_marked.ensures.ok in
-    is ∙ ap Ok (sym c.in-Ok-gathered.ensures.value)
+    is ∙ ap Ok (sym c.in-Ok-kept_ports.ensures.value)

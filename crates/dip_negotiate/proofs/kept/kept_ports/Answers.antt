@@ -3,8 +3,8 @@ use Rattle.dip_negotiate.specs.Passes.{beside}
 use Rattle.dip_negotiate.specs.Demands.{port_entries, seen}
 use Rattle.dip_negotiate.proofs.Gathering.{on}
 use Rattle.dip_negotiate.proofs.Seen.{seen_apart}
-use Rattle.dip_negotiate.proofs.kept.gathered.Goals as goal
-use Rattle.dip_negotiate.proofs.kept.gathered.Goals.{then-stands_behind+in_ok-pick, else-stands_behind+in_ok-take}
+use Rattle.dip_negotiate.proofs.kept.kept_ports.Goals as goal
+use Rattle.dip_negotiate.proofs.kept.kept_ports.Goals.{then-stands_behind+in_ok-pick, else-stands_behind+in_ok-take}
 
 pub loop-edge-preserved : goal.loop-edge-preserved
 loop-edge-preserved g c =

@@ -1,8 +1,8 @@
 use Rattle.std.proofs.Common.{◌≡◌, ◌+◌, ◌++◌, drop, map, sum}
-use Rattle.dip_negotiate.specs.Demands.{gathered, seen}
-use Rattle.dip_negotiate.proofs.kept.gathered.Given as goal
+use Rattle.dip_negotiate.specs.Demands.{kept_ports, seen}
+use Rattle.dip_negotiate.proofs.kept.kept_ports.Given as goal
 
 abbrev pub invariant-loop-edge : goal.invariant-loop-edge
 invariant-loop-edge g l =
-    (l.some ++ gathered (seen (drop l.edge l.firsts) l.ports.items) ≡ gathered (seen l.firsts l.fn.ports.items))
+    (l.some ++ kept_ports (seen (drop l.edge l.firsts) l.ports.items) ≡ kept_ports (seen l.firsts l.fn.ports.items))
     × (l.room + sum (map g.P.Negotiated.count l.some) ≡ g.P.Negotiated.MOST_ENTRIES)

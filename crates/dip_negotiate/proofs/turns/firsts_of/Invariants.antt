@@ -1,6 +1,0 @@
-use Rattle.std.proofs.Common.{◌≡◌, ◌++◌, drop, map}
-use Rattle.dip_negotiate.specs.Demands.{first_at, firsts_of}
-use Rattle.dip_negotiate.proofs.turns.firsts_of.Given as goal
-
-abbrev pub invariant-loop-end : goal.invariant-loop-end
-invariant-loop-end l = l.firsts ++ map (λ end. first_at end l.ends) (drop l.end-index l.ends) ≡ firsts_of l.ends
