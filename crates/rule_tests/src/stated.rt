@@ -81,7 +81,11 @@ fn modules(alloc: Global, text: &str) -> Result<ModuleTree, Memory> {
         let word = if first { "one" } else { "m" };
         let last = number == others && !first;
         modules.push(ModuleEntry {
-            name: long_name(alloc, word, if first { 0 } else { value(text, "module", 0) })?,
+            name: long_name(
+                alloc,
+                word,
+                if first { 0 } else { value(text, "module", 0) },
+            )?,
             parent: if last { value(text, "parent", 0) } else { 0 },
         })?;
     }
