@@ -72,20 +72,23 @@ fn args(alloc: Global, count: u32) -> Result<Args, Memory> {
     Ok(args)
 }
 
+// The name of the module with a number: the design's, or `m` of so many bytes.
+fn module_name(alloc: Global, text: &str, number: u32) -> Result<Name, Memory> {
+    if number == 0 {
+        let design = value(text, "design", 3);
+        return long_name(alloc, "one", value(text, "topname", design));
+    }
+    long_name(alloc, "m", value(text, "module", 1))
+}
+
 // The top module and so many others within it, the last of which has this parent.
 fn modules(alloc: Global, text: &str) -> Result<ModuleTree, Memory> {
     let mut modules = Items::new(alloc);
     let others = value(text, "modules", 1);
     for number in 0..others.saturating_add(value(text, "top", 1)) {
-        let first = number == 0;
-        let word = if first { "one" } else { "m" };
-        let last = number == others && !first;
+        let last = number == others && number > 0;
         modules.push(ModuleEntry {
-            name: long_name(
-                alloc,
-                word,
-                if first { 0 } else { value(text, "module", 0) },
-            )?,
+            name: module_name(alloc, text, number)?,
             parent: if last { value(text, "parent", 0) } else { 0 },
         })?;
     }
