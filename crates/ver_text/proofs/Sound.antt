@@ -432,10 +432,7 @@ read_spells text n l e =
     let less : length ss < 2 ^ 64 = omega arith in
     subst (Spells text) same (netlist_by r.last ss g text less refl)
 
--- what the parts of a text say is spelled by it
-pub spelled_parts : (text : List ℕ) (p : Progress) (said_netlist : Result Netlist TextFault) → refused start (tokens_from text 0) (length text) ≡ None
-    → judged text at_first (parts at_start (tokens_from text 0)) ≡ Ok p → Gives (named_netlist p.name p) said_netlist → length text < 2 ^ 64
-    → IfOk said_netlist (λ n. Spells text n)
-unfolding read_text parts_say
-spelled_parts text p (Ok n) s j e l = read_spells text n l (rw s (rw j e))
-spelled_parts text p (Err fault) s j e l = tt
+-- what is read of a text is spelled by it
+pub spelled_result : (text : List ℕ) (r : Result Netlist TextFault) → Gives (read_text text) r → length text < 2 ^ 64 → IfOk r (λ n. Spells text n)
+spelled_result text (Ok n) e l = read_spells text n l e
+spelled_result text (Err fault) e l = tt

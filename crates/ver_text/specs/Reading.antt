@@ -1,16 +1,14 @@
 -- What a text says, or the place at which it is refused.
-use Rattle.std.specs.Prelude.{◌≡◌, ℕ, ◌+◌, List, [], ◌∷◌, length, Bool, not, ◌&&◌, cond, Option, Some, None, Result, Ok, Err}
+use Rattle.std.specs.Prelude.{◌≡◌, ℕ, List, [], ◌∷◌, length, cond, Option, Some, None, Result, Ok, Err}
 use Rattle.net_cells.specs.declared.netlist.Netlist.{Netlist}
-use Rattle.ver_text.specs.declared.scan.Lexeme.{Lexeme}
 use Rattle.ver_text.specs.declared.part.Part.{Part}
 use Rattle.ver_text.specs.declared.part.Cursor.{Cursor}
 use Rattle.ver_text.specs.declared.progress.Progress.{Progress}
 use Rattle.ver_text.specs.declared.fault.TextFault.{TextFault}
 use Rattle.ver_text.specs.declared.fault.TextFault.TheVariants.{NotText, Memory}
-use Rattle.ver_text.specs.Kinds.{is_gap}
 use Rattle.ver_text.specs.Grammar.{start}
 use Rattle.ver_text.specs.Tokens.{tokens_from, refused}
-use Rattle.ver_text.specs.Parts.{ends, moved, parts, at_start}
+use Rattle.ver_text.specs.Parts.{ends, parts, at_start}
 use Rattle.ver_text.specs.Due.{due, at_first}
 
 -- What parts say behind others that said this, or the place of the first that isn't due.
@@ -19,21 +17,6 @@ judged text p [] = Ok p
 judged text p (part ∷ more) =
     elim (due text p part) as
     (λ _. Result Progress ℕ) [ None ↦ Err part.head.start | Some next ↦ judged text next more ]
-
--- ---- the same along a text
-
--- what was read after one more token or gap at a place
-abbrev pub moved_past : Cursor → ℕ → Lexeme → Cursor
-moved_past c at lexeme =
-    cond (is_gap lexeme.kind) c (moved c (record { kind = lexeme.kind; start = at; length = lexeme.more + 1 }))
-
--- whether the token just read ended a part
-abbrev pub has_ended : Cursor → Lexeme → Bool
-has_ended c lexeme = not (is_gap lexeme.kind) && ends c.state
-
--- what is known after a part, where one has ended
-abbrev pub due_where : Bool → List ℕ → Progress → Part → Option Progress
-due_where ended text p part = cond ended (due text p part) (Some p)
 
 -- ---- the whole text
 
@@ -53,7 +36,7 @@ unfoldable pub parts_say : List ℕ → Result Netlist ℕ
 parts_say text = netlist_of (judged text at_first (parts at_start (tokens_from text 0)))
 
 -- a refusal by the syntax comes before what the parts say
-abbrev pub unless_refused : Option ℕ → Result Netlist ℕ → Result Netlist ℕ
+abbrev pub unless_refused : {A : Type 0} → Option ℕ → Result A ℕ → Result A ℕ
 unless_refused (Some place) say = Err place
 unless_refused None say = say
 
@@ -70,3 +53,14 @@ Faults said Memory = Unit {0}
 abbrev pub Gives : {A : Type 0} → Result A ℕ → Result A TextFault → Type 0
 Gives said (Ok a) = said ≡ Ok a
 Gives said (Err fault) = Faults said fault
+
+-- What a text says from a place on, behind what was read and said before; only what isn't public cites it.
+abbrev pub said_from : List ℕ → Cursor → Progress → ℕ → Result Progress ℕ
+said_from text c p at =
+    unless_refused (refused c.state (tokens_from text at) (length text)) (judged text p (parts c (tokens_from text at)))
+
+-- The same behind a token that may have ended a part, which is due then; only what isn't public cites it.
+abbrev pub part_said : List ℕ → Cursor → Progress → ℕ → Result Progress ℕ
+part_said text c p at =
+    unless_refused (refused c.state (tokens_from text at) (length text))
+    (judged text p (cond (ends c.state) (c.part ∷ parts c (tokens_from text at)) (parts c (tokens_from text at))))

@@ -474,8 +474,8 @@ impl Progress {
 
     /// Takes the next part of a text, and answers whether it was due.
     #[tactic(auto, unfolding(crate::specs::Due::due))]
-    pub fn take(&mut self, alloc: Global, text: &[u8], part: Part) -> Result<bool, Memory>
-        ensures { IfOk result (λ is. cond is (Some self.new) None ≡ spec.due text.now self.old part) }
+    pub fn take(&mut self, alloc: Global, text: &[u8], part: &Part) -> Result<bool, Memory>
+        ensures { IfOk result (λ is. cond is (Some self.new) None ≡ spec.due text.now self.old part.now) }
     {
         let fourth = bytes_of(text, part.fourth);
         let third = bytes_of(text, part.third);

@@ -1,4 +1,4 @@
-ghost use Rattle.std.specs.Prelude.{◌≡◌};
+ghost use Rattle.std.specs.Prelude.{◌≡◌, Some};
 ghost use Rattle.ver_text.specs.Parts as spec;
 
 use crate::grammar::{State, behind, next_rule};
@@ -56,39 +56,25 @@ fn closes(kind: Kind) -> bool
 }
 
 impl Part {
-    // The part with a token as its first, if it is that.
-    fn with_head(self, is_first: bool, token: Token) -> Part
-        ensures { result ≡ spec.with_head is_first self token }
+    // Takes a token as the first, if it is that.
+    fn begin(&mut self, is_first: bool, token: Token)
+        ensures { self.new ≡ spec.with_head is_first self.old token }
     {
         if is_first {
-            return Part {
-                head: token,
-                ..self
-            };
-        }
-        self
-    }
-
-    // The part with a token as its last word, if it is one.
-    fn with_word(self, token: Token) -> Part
-        ensures { result ≡ spec.with_word self token }
-    {
-        if !token.kind.is_word() {
-            return self;
-        }
-        Part {
-            fourth: self.third,
-            third: self.second,
-            second: self.last,
-            last: token,
-            ..self
+            self.head = token;
         }
     }
 
-    fn with_form(self, form: Kind) -> Part
-        ensures { result ≡ spec.with_form self form }
+    // Takes a token as the last word, if it is one.
+    fn add_word(&mut self, token: Token)
+        ensures { self.new ≡ spec.with_word self.old token }
     {
-        Part { form, ..self }
+        if token.kind.is_word() {
+            self.fourth = self.third;
+            self.third = self.second;
+            self.second = self.last;
+            self.last = token;
+        }
     }
 }
 
@@ -115,24 +101,19 @@ impl Cursor {
         }
     }
 
-    /// After one more token. A token that can't come there changes nothing.
-    #[tactic(auto, unfolding(crate::specs::Parts::moved))]
-    pub fn moved(self, token: Token) -> Cursor
-        ensures { result ≡ spec.moved self token }
+    /// Goes on behind one more token, to this state.
+    pub fn pass(&mut self, token: Token, state: State)
+        ensures { self.new ≡ spec.moved_to self.old token (Some state) }
     {
-        let Some(state) = self.state.next_state(token.kind) else {
-            return self;
-        };
-        let part = self.part.with_head(opens(self.state), token);
-        Cursor {
-            state,
-            part: part.with_word(token).with_form(state.first),
-        }
+        self.part.begin(opens(self.state), token);
+        self.part.add_word(token);
+        self.part.form = state.first;
+        self.state = state;
     }
 
     /// Whether the token just read was the last of a part, or the one behind the module's name.
-    pub fn ends(self) -> bool
-        ensures { result ≡ spec.ends self.state }
+    pub fn ends(&self) -> bool
+        ensures { result ≡ spec.ends self.now.state }
     {
         is_done(self.state) && closes(self.state.first)
     }

@@ -1,78 +1,100 @@
-ghost use Rattle.std.specs.Prelude.{◌≡◌, ◌≤◌, ◌<◌, ◌+◌, ◌^◌, Some, None, cond, length, IfOk};
-ghost use Rattle.ver_text.specs.Parts.{at_start, parts};
+ghost use Rattle.std.specs.Prelude.{◌≡◌, ◌≤◌, ◌<◌, ◌+◌, ◌^◌, Some, None, false, drop, length, unwrap_or, IfErr, IfOk, OnOk};
+ghost use Rattle.ver_text.specs.Grammar.{next_state};
+ghost use Rattle.ver_text.specs.Kinds.{is_gap};
+ghost use Rattle.ver_text.specs.Lexemes.{first_lexeme};
+ghost use Rattle.ver_text.specs.Parts.{at_start, moved_to};
 ghost use Rattle.ver_text.specs.Due.{at_first};
-ghost use Rattle.ver_text.specs.Tokens.{tokens_from};
+ghost use Rattle.ver_text.specs.Tokens.{refused, tokens_from};
 ghost use Rattle.ver_text.specs.Reading as spec;
 ghost use Rattle.ver_text.specs.TextLaw.{Spells};
 
 use crate::fault::TextFault;
-use crate::part::{Cursor, Part};
+use crate::grammar::State;
+use crate::part::Cursor;
 use crate::progress::Progress;
 use crate::scan::Lexeme;
-use crate::syntax::refused_place;
+use crate::syntax::refused_from;
 use crate::token::{Token, lexeme_at};
-use dip_lists::Memory;
 use net_cells::Netlist;
 use std::alloc::Global;
 
-// After one more token or gap at a place.
-fn moved_past(cursor: Cursor, at: usize, lexeme: Lexeme) -> Cursor
-    requires { at + lexeme.more + 1 < 2 ^ 64 }
-    ensures { result ≡ spec.moved_past cursor at lexeme }
+// The fault of a text that is refused at a place.
+fn refusal(place: usize) -> TextFault
+    ensures { result ≡ TextFault.NotText place }
 {
-    if lexeme.kind.is_gap() {
-        return cursor;
-    }
-    cursor.moved(Token {
-        kind: lexeme.kind,
-        start: at,
-        length: lexeme.more + 1,
-    })
+    TextFault::NotText { place }
 }
 
-// Whether the token just read ended a part.
-fn has_ended(cursor: Cursor, lexeme: Lexeme) -> bool
-    ensures { result ≡ spec.has_ended cursor lexeme }
-{
-    !lexeme.kind.is_gap() && cursor.ends()
-}
-
-// Takes a part where one has ended, and answers whether it was due.
-fn take_ended(
+// Takes the part that a token has ended, if it has; the text goes on at this place.
+fn take_part(
     progress: &mut Progress,
     alloc: Global,
     text: &[u8],
-    ended: bool,
-    part: Part,
-) -> Result<bool, Memory>
-    ensures { IfOk result (λ is. cond is (Some progress.new) None
-        ≡ spec.due_where ended text.now progress.old part) }
+    cursor: &Cursor,
+    at: usize,
+) -> Result<(), TextFault>
+    requires { at ≤ length text.now }
+    ensures goes { OnOk result (spec.part_said text.now cursor.now progress.old at
+        ≡ spec.said_from text.now cursor.now progress.new at) }
+    ensures fault { IfErr result (spec.Faults (spec.part_said text.now cursor.now progress.old at)) }
 {
-    if !ended {
-        return Ok(true);
+    if !cursor.ends() || progress.take(alloc, text, &cursor.part)? {
+        return Ok(());
     }
-    progress.take(alloc, text, part)
+    let behind = refused_from(text, cursor.state, at);
+    Err(refusal(behind.unwrap_or(cursor.part.head.start)))
 }
 
-// What the parts of a text say, or the first of them that isn't due.
-fn parts_of(alloc: Global, text: &[u8]) -> Result<Progress, TextFault>
-    ensures { spec.Gives (spec.judged text.now at_first (parts at_start (tokens_from text.now 0))) result }
+// Goes on behind a token or gap at a place.
+fn pass(
+    progress: &mut Progress,
+    cursor: &mut Cursor,
+    alloc: Global,
+    text: &[u8],
+    at: usize,
+    lexeme: Lexeme,
+) -> Result<(), TextFault>
+    requires there { at < length text.now }
+    requires lexeme { lexeme ≡ first_lexeme (drop at text.now) }
+    requires within { at + lexeme.more + 1 ≤ length text.now }
+    ensures goes { OnOk result
+        (spec.said_from text.now cursor.new progress.new (at + (lexeme.more + 1))
+        ≡ spec.said_from text.now cursor.old progress.old at) }
+    ensures fault { IfErr result (spec.Faults (spec.said_from text.now cursor.old progress.old at)) }
+{
+    if lexeme.kind.is_gap() {
+        return Ok(());
+    }
+    let Some(state) = cursor.state.next_state(lexeme.kind) else {
+        return Err(refusal(at));
+    };
+    let length = lexeme.more + 1;
+    let token = Token {
+        kind: lexeme.kind,
+        start: at,
+        length,
+    };
+    cursor.pass(token, state);
+    take_part(progress, alloc, text, cursor, at + length)
+}
+
+// What a text says, or the place at which it is refused.
+fn said(alloc: Global, text: &[u8]) -> Result<Progress, TextFault>
+    ensures { spec.Gives (spec.said_from text.now at_start at_first 0) result }
 {
     let mut at = 0;
     let mut cursor = Cursor::at_start();
     let mut progress = Progress::at_first(alloc);
     while at < text.len() {
         let lexeme = lexeme_at(text, at);
-        cursor = moved_past(cursor, at, lexeme);
-        let ended = has_ended(cursor, lexeme);
-        if !take_ended(&mut progress, alloc, text, ended, cursor.part)? {
-            return Err(TextFault::NotText {
-                place: cursor.part.head.start,
-            });
-        }
+        pass(&mut progress, &mut cursor, alloc, text, at, lexeme)?;
         at += lexeme.more + 1;
     }
-    Ok(progress)
+    if cursor.state.is_whole() {
+        Ok(progress)
+    } else {
+        Err(refusal(text.len()))
+    }
 }
 
 // The netlist that was read, where it has a name.
@@ -95,19 +117,15 @@ fn netlist_of(progress: Progress) -> Result<Netlist, TextFault>
             cells,
             outputs,
         }),
-        None => Err(TextFault::NotText { place: 0 }),
+        None => Err(refusal(0)),
     }
 }
 
 /// The netlist that a text spells, which is well formed, or the place at which it is refused.
-#[tactic(auto, unfolding(crate::specs::Reading::read_text, crate::specs::Reading::parts_say))]
 pub fn read(alloc: Global, text: &[u8]) -> Result<Netlist, TextFault>
     ensures said { spec.Gives (spec.read_text text.now) result }
     ensures spelled { IfOk result (λ netlist. Spells text.now netlist) }
 {
-    if let Some(place) = refused_place(text) {
-        return Err(TextFault::NotText { place });
-    }
-    let progress = parts_of(alloc, text)?;
+    let progress = said(alloc, text)?;
     netlist_of(progress)
 }

@@ -1,5 +1,4 @@
-ghost use Rattle.std.specs.Prelude.{◌≡◌, length};
-ghost use Rattle.ver_text.specs.Grammar.{start};
+ghost use Rattle.std.specs.Prelude.{◌≡◌, ◌≤◌, length};
 ghost use Rattle.ver_text.specs.Tokens.{after, refused, tokens_from};
 
 use crate::grammar::State;
@@ -16,14 +15,13 @@ fn after(state: State, kind: Kind) -> Option<State>
     state.next_state(kind)
 }
 
-/// The place at which the syntax refuses a text: of its first token, or first byte that begins none, with
-/// which no text of the syntax begins; or its length, where it ends too early. `None` where it has the
-/// syntax.
-pub fn refused_place(text: &[u8]) -> Option<usize>
-    ensures { result ≡ refused start (tokens_from text.now 0) (length text.now) }
+/// The place at which the syntax refuses a text from a place on, behind what led to this state: that of the
+/// first token, or first byte that begins none, that can't come; or its length, where it ends too early.
+/// `None` where it has the syntax.
+pub fn refused_from(text: &[u8], mut state: State, mut at: usize) -> Option<usize>
+    requires { at ≤ length text.now }
+    ensures { result ≡ refused state (tokens_from text.now at) (length text.now) }
 {
-    let mut at = 0;
-    let mut state = State::start();
     while at < text.len() {
         let lexeme = lexeme_at(text, at);
         let Some(next) = after(state, lexeme.kind) else {

@@ -1,6 +1,6 @@
 use Rattle.std.proofs.Common.{length, sym, ◌∙◌, arith}
 use Rattle.ver_text.proofs.Scans.{refused_there, refused_later, refused_end}
-use Rattle.ver_text.proofs.syntax.refused_place.Goals as goal
+use Rattle.ver_text.proofs.syntax.refused_from.Goals as goal
 
 pub returns-in_default : goal.returns-in_default
 returns-in_default c =
