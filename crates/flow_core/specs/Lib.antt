@@ -9,3 +9,4 @@ pub mod Queues
 pub mod Network
 pub mod ExampleBeats
 pub mod Examples
+pub mod Built

@@ -9,10 +9,11 @@ use Rattle.tl_edge.specs.declared.plan.PlanPort.{PlanPort}
 use Rattle.tl_edge.specs.declared.plan.Plan.{Plan}
 use Rattle.flow_core.specs.declared.moves.Move.{Move}
 use Rattle.flow_core.specs.declared.moves.Move.TheVariants.{Enter, Leave, Reply, Return, AbsorbA, AbsorbD, ForwardA, ForwardD}
+use Rattle.flow_core.specs.declared.queue.Flow.{Flow}
 use Rattle.flow_core.specs.Acts.{Act}
 use Rattle.flow_core.specs.Leaves.{leaf_at_start}
 use Rattle.flow_core.specs.Tags.{Held, no_tag, held_down, held_down_alone, held_up, held_up_alone}
-use Rattle.flow_core.specs.Queues.{Flow, queue, first, still, takes, puts, may_flow, flowed}
+use Rattle.flow_core.specs.Queues.{queue, first, still, takes, puts, may_flow, flowed}
 
 -- the state: of each edge the beats put and not yet taken on both channels, each with its tag, and of each leaf its own
 pub record State : Type 0 where
@@ -134,6 +135,14 @@ leaf_job_d leaf part = record { a = still; d = part.flow; leaf = Some (leaf, par
 -- the edge of a port, by its number
 abbrev pub edge_of_port : List PlanPort → ℕ → Option ℕ
 edge_of_port ports port = option_map (λ (at : PlanPort). at.edge) (slice_get ports port)
+
+-- the beat that waits to leave at a sink port
+abbrev pub leaving : State → ℕ → Option (ABeat × Tag)
+leaving state port = option_and_then (λ edge. first (queue state.a edge)) (edge_of_port state.plan.sinks port)
+
+-- the beat that waits to return at a source port
+abbrev pub returning : State → ℕ → Option (DBeat × Tag)
+returning state port = option_and_then (λ edge. first (queue state.d edge)) (edge_of_port state.plan.sources port)
 
 -- what a move does where it names a port, or a leaf with an input and an output, and where the leaf acts; whether there
 -- are head and room isn't asked here

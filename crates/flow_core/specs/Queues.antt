@@ -1,5 +1,6 @@
 -- The queues of one channel, one for each edge, and what one move does to them.
 use Rattle.std.specs.Prelude.{ℕ, Bool, true, false, ◌&&◌, cond, nat_lt, List, [], ◌∷◌, ◌++◌, length, drop, get_or, set, Option, Some, None, is_some}
+use Rattle.flow_core.specs.declared.queue.Flow.{Flow}
 
 -- a queue has room where it holds fewer than two
 abbrev pub most_waiting : ℕ
@@ -14,12 +15,14 @@ abbrev pub first : {B : Type 0} → List B → Option B
 first [] = None
 first (beat ∷ beats) = Some beat
 
--- what a move does to the queues of a channel: it may look at the head of one, may take it, and may put a beat into
--- another
-pub record Flow (B : Type 0) : Type 0 where
-  pub from : Option ℕ
-  pub take : Bool
-  pub put : Option (ℕ × B)
+-- one optional beat, as a queue
+abbrev pub waiting : {B : Type 0} → Option B → List B
+waiting None = []
+waiting (Some beat) = beat ∷ []
+
+-- a queue has room for one more
+abbrev pub has_place : {B : Type 0} → List B → Bool
+has_place beats = nat_lt (length beats) most_waiting
 
 -- it does nothing
 abbrev pub still : {B : Type 0} → Flow B
@@ -40,7 +43,7 @@ has_head queues (Some edge) = is_some (first (queue queues edge))
 
 -- an edge has room
 abbrev pub has_room_at : {B : Type 0} → List (List B) → ℕ → Bool
-has_room_at queues edge = nat_lt edge (length queues) && nat_lt (length (queue queues edge)) most_waiting
+has_room_at queues edge = nat_lt edge (length queues) && has_place (queue queues edge)
 
 -- there is room for what is put
 abbrev pub has_room : {B : Type 0} → List (List B) → Option (ℕ × B) → Bool

@@ -3,6 +3,9 @@
 
 mod laws;
 mod moves;
+mod network;
+mod queue;
 
 pub use laws::{examples_law, tags_law};
 pub use moves::{Move, Moves};
+pub use network::Network;
