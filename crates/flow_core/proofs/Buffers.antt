@@ -1,7 +1,7 @@
 -- What the moves of leaves are in a network of buffers.
 use Rattle.std.proofs.Common.{ℕ, zero, suc, ◌≡◌, Bool, true, false, ◌&&◌, cond, List, [], ◌∷◌, map, All, Option, Some, None, is_some, refl, sym, ap, ◌∙◌}
 use Rattle.std.specs.Prelude.{slice_get, slice_set, ◌==◌}
-use Rattle.std.specs.Option.{option_map, option_map_or, option_and_then, option_or}
+use Rattle.std.specs.Option.{option_map, option_map_or, option_and_then}
 use Rattle.std.proofs.lemmas.List.Elements.{All-head, All-tail}
 use Rattle.std.proofs.lemmas.Option.{same_Some, none-some}
 use Rattle.tl_params.specs.declared.ops.Template.{Template}
@@ -12,13 +12,13 @@ use Rattle.tl_edge.specs.declared.beat.Tag.{Tag}
 use Rattle.tl_edge.specs.declared.plan.Leaf.{Leaf}
 use Rattle.tl_edge.specs.declared.plan.PlanEdge.{PlanEdge}
 use Rattle.tl_edge.specs.declared.plan.Plan.{Plan}
-use Rattle.flow_core.specs.declared.moves.Move.TheVariants.{AbsorbA, AbsorbD, ForwardA, ForwardD}
+use Rattle.flow_core.specs.declared.moves.Move.TheVariants.{Leave, Return, AbsorbA, AbsorbD, ForwardA, ForwardD}
 use Rattle.flow_core.specs.Acts.{Act, forwards}
-use Rattle.flow_core.specs.Leaves.{at_start, only_way}
+use Rattle.flow_core.specs.Leaves.{at_start}
 use Rattle.flow_core.specs.Leaves.LeafState.{BufferState}
-use Rattle.flow_core.specs.Tags.{Held, no_tag, tagged, tagged_down, held_down, held_down_alone, held_up, held_up_alone}
-use Rattle.flow_core.specs.Queues.{queue, first, may_flow, has_room_at, flowed}
-use Rattle.flow_core.specs.Network.{State, Part, Job, held_at_start, by_head, part, both, part_down, part_up, in_edge, out_edge, part_a, part_d, forwarding, absorbing, leaf_job_a, leaf_job_d, may_do, is_enabled, done, after}
+use Rattle.flow_core.specs.Tags.{Held, no_tag, tagged, tagged_down, held_down, held_up}
+use Rattle.flow_core.specs.Queues.{queue, first, takes, taken, may_flow, has_room_at, flowed}
+use Rattle.flow_core.specs.Network.{Part, edge_of_port, port_job_a, port_job_d, held_at_start, by_head, part, both, part_down, part_up, part_a, part_d, forwarding, absorbing, leaf_job_a, leaf_job_d, may_do, is_enabled, done, after}
 use Rattle.flow_core.specs.Built.{IsBuilt, network, ends, ends_back, may_pass, passed}
 
 buffer_held : Held
@@ -258,3 +258,13 @@ module _ (plan : Plan) (built : IsBuilt plan) (a : List (List (ABeat × Tag))) (
 
   pub after_absorb_d : after (network plan a d) (AbsorbD l) ≡ network plan a d
   after_absorb_d = ap (λ p. option_map_or (done (network plan a d)) (option_map (leaf_job_d l) p) (network plan a d)) none_d
+
+-- ---- the moves of ports that take
+
+pub after_leave : (plan : Plan) (a : List (List (ABeat × Tag))) (d : List (List (DBeat × Tag))) (port edge : ℕ) → edge_of_port plan.sinks port ≡ Some edge
+    → after (network plan a d) (Leave port) ≡ network plan (taken (Some edge) a) d
+after_leave plan a d port edge e = ap (λ at. option_map_or (done (network plan a d)) (option_map (λ edge. port_job_a (takes edge)) at) (network plan a d)) e
+
+pub after_return : (plan : Plan) (a : List (List (ABeat × Tag))) (d : List (List (DBeat × Tag))) (port edge : ℕ) → edge_of_port plan.sources port ≡ Some edge
+    → after (network plan a d) (Return port) ≡ network plan a (taken (Some edge) d)
+after_return plan a d port edge e = ap (λ at. option_map_or (done (network plan a d)) (option_map (λ edge. port_job_d (takes edge)) at) (network plan a d)) e

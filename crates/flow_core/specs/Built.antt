@@ -1,5 +1,5 @@
 -- Networks of buffers, whose leaves keep nothing: which plans they are built of, and what a move of a leaf does in them.
-use Rattle.std.specs.Prelude.{ℕ, ◌≡◌, Bool, true, ◌&&◌, List, [], ◌∷◌, map, All, Option, Some, None, is_some}
+use Rattle.std.specs.Prelude.{ℕ, ◌≡◌, Bool, true, ◌&&◌, List, map, All, Option, Some, is_some}
 use Rattle.std.specs.Option.{option_map_or}
 use Rattle.tl_params.specs.declared.ops.Template.TheVariants.{Buffer}
 use Rattle.tl_edge.specs.declared.beat.ABeat.{ABeat}
@@ -37,5 +37,5 @@ may_pass queues from to = is_some (first (queue queues from)) && has_room_at que
 abbrev pub passed : {B : Type 0} → List (List B) → ℕ → ℕ → List (List B)
 passed queues from to =
     option_map_or (λ beat. flowed (record { from = Some from; take = true; put = Some (to, beat) }) queues)
-      (first (queue queues from))
-      queues
+    (first (queue queues from))
+    queues

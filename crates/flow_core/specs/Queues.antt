@@ -30,11 +30,11 @@ still = record { from = None; take = false; put = None }
 
 -- a head is taken from an edge
 abbrev pub takes : {B : Type 0} → ℕ → Flow B
-takes edge = record { from = Some edge; take = false; put = None }
+takes edge = record { from = Some edge; take = true; put = None }
 
 -- a beat is put onto an edge
 abbrev pub puts : {B : Type 0} → ℕ → B → Flow B
-puts edge beat = record { from = None; take = true; put = Some (edge, beat) }
+puts edge beat = record { from = None; take = false; put = Some (edge, beat) }
 
 -- there is a head to look at
 abbrev pub has_head : {B : Type 0} → List (List B) → Option ℕ → Bool
