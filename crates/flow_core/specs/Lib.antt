@@ -10,3 +10,5 @@ pub mod Network
 pub mod ExampleBeats
 pub mod Examples
 pub mod Built
+pub mod ExampleMoves
+pub mod Shapes

@@ -6,6 +6,6 @@ mod moves;
 mod network;
 mod queue;
 
-pub use laws::{examples_law, tags_law};
+pub use laws::{examples_law, moves_law, shape_law, tags_law};
 pub use moves::{Move, Moves};
 pub use network::Network;
