@@ -1,0 +1,5 @@
+pub mod Untagged
+pub mod Worked
+pub mod Buffers
+pub mod Runs
+pub mod WorkedMoves

@@ -1,0 +1,14 @@
+pub mod Acts
+pub mod Crossing
+pub mod Shrinking
+pub mod Turning
+pub mod Fragmenting
+pub mod Leaves
+pub mod Tags
+pub mod Queues
+pub mod Network
+pub mod ExampleBeats
+pub mod Examples
+pub mod Built
+pub mod ExampleMoves
+pub mod Shapes

@@ -1,0 +1,34 @@
+ghost use Rattle.flow_core.specs.ExampleMoves.{CuttingExample, MovesExample};
+ghost use Rattle.flow_core.specs.Examples.{
+  CrossbarExample,
+  FragmenterExample,
+  ShrinkerExample,
+  WidthExample,
+};
+ghost use Rattle.flow_core.specs.Shapes.{ShapeLaw};
+ghost use Rattle.flow_core.specs.Tags.{TagsLaw};
+
+/// No act of a leaf goes by the tags of beats.
+pub fn tags_law()
+    ensures { TagsLaw }
+{}
+
+/// What each machine does in examples in which every state and every beat is written out.
+pub fn examples_law()
+    ensures crossbar { CrossbarExample }
+    ensures shrinker { ShrinkerExample }
+    ensures width { WidthExample }
+    ensures fragmenter { FragmenterExample }
+{}
+
+/// What single moves do in examples in which every queue is written out.
+pub fn moves_law()
+    ensures buffer { MovesExample }
+    ensures fragmenter { CuttingExample }
+{}
+
+/// Whatever moves are made, in whatever order, each queue holds at most two beats, and the network stays one of its
+/// plan.
+pub fn shape_law()
+    ensures { ShapeLaw }
+{}

@@ -1,0 +1,11 @@
+//! The network of beats: queues on the edges of a plan, leaves between them, and the moves that change them.
+#![tactic(auto)]
+
+mod laws;
+mod moves;
+mod network;
+mod queue;
+
+pub use laws::{examples_law, moves_law, shape_law, tags_law};
+pub use moves::{Move, Moves};
+pub use network::Network;

@@ -1,0 +1,314 @@
+ghost use Rattle.std.specs.Prelude.{◌≡◌, IsTrue, IfOk};
+ghost use Rattle.flow_core.specs.Built.{ends, ends_back, IsBuilt};
+ghost use Rattle.flow_core.specs.Network as spec;
+ghost use Rattle.flow_core.specs.declared.moves.Move.TheVariants.{AbsorbA, AbsorbD, Enter, ForwardA, ForwardD, Leave, Reply, Return};
+
+use crate::Move;
+use crate::queue::Queues;
+use dip_lists::Memory;
+use std::alloc::Global;
+use std::marker::Model;
+use tl_edge::{ABeat, DBeat, Plan, PlanPort, Tag};
+
+/// The network of a plan, as it stands between two moves.
+#[derive(Drop)]
+pub struct Network<'a> {
+    plan: &'a Plan,
+    a: Queues<(ABeat, Tag)>,
+    d: Queues<(DBeat, Tag)>,
+}
+
+impl<'a> Model for Network<'a> {
+    ghost use Rattle.flow_core.specs.Built.{IsBuilt, network};
+    ghost use Rattle.flow_core.specs.Network.{State};
+
+    ghost Value = { State };
+
+    ghost view = { λ net. network net.plan.now net.a net.d };
+
+    ghost invariant = { λ net. IsBuilt net.plan.now };
+}
+
+// The edge of a port.
+fn edge_of(ports: &[PlanPort], port: u32) -> Option<u32>
+    ensures { result ≡ spec.edge_of_port ports.now port }
+{
+    match ports.get(port as usize) {
+        None => None,
+        Some(at) => Some(at.edge),
+    }
+}
+
+// The edge of a leaf's input.
+fn in_edge(plan: &Plan, leaf: u32, input: u32) -> Option<u32>
+    ensures { result ≡ spec.in_edge plan.now leaf input }
+{
+    match plan.leaves.as_slice().get(leaf as usize) {
+        None => None,
+        Some(at) => at.ins.as_slice().get(input as usize).copied(),
+    }
+}
+
+// The edge of a leaf's output.
+fn out_edge(plan: &Plan, leaf: u32, output: u32) -> Option<u32>
+    ensures { result ≡ spec.out_edge plan.now leaf output }
+{
+    match plan.leaves.as_slice().get(leaf as usize) {
+        None => None,
+        Some(at) => at.outs.as_slice().get(output as usize).copied(),
+    }
+}
+
+// The edges between which a beat passes a buffer towards the sinks.
+fn way_down(plan: &Plan, leaf: u32, input: u32, output: u32, id: u32) -> Option<(u32, u32)>
+    ensures { result ≡ ends plan.now leaf input output id }
+{
+    if id != 0 || input != 0 || output != 0 {
+        return None;
+    }
+    let from = in_edge(plan, leaf, input)?;
+    let to = out_edge(plan, leaf, output)?;
+    Some((from, to))
+}
+
+// The edges between which a beat passes a buffer towards the sources.
+fn way_up(plan: &Plan, leaf: u32, input: u32, output: u32) -> Option<(u32, u32)>
+    ensures { result ≡ ends_back plan.now leaf input output }
+{
+    if input != 0 || output != 0 {
+        return None;
+    }
+    let from = out_edge(plan, leaf, output)?;
+    let to = in_edge(plan, leaf, input)?;
+    Some((from, to))
+}
+
+impl<'a> Network<'a> {
+    /// The network of a plan of buffers, with all queues empty.
+    pub fn open(alloc: Global, plan: &'a Plan) -> Result<Network<'a>, Memory>
+        requires { IsBuilt plan.now }
+        ensures { IfOk result (λ network. network ≡ spec.start plan.now) }
+    {
+        let a = Queues::open(alloc, plan.edges.len())?;
+        let d = Queues::open(alloc, plan.edges.len())?;
+        Ok(Network { plan, a, d })
+    }
+
+    /// The beat that waits to leave at a sink port, if one does.
+    pub fn leaving(&self, port: u32) -> Option<(ABeat, Tag)>
+        ensures { result ≡ spec.leaving self.now port }
+    {
+        match edge_of(self.plan.sinks.as_slice(), port) {
+            None => None,
+            Some(edge) => self.a.first(edge),
+        }
+    }
+
+    /// The beat that waits to return at a source port, if one does.
+    pub fn returning(&self, port: u32) -> Option<(DBeat, Tag)>
+        ensures { result ≡ spec.returning self.now port }
+    {
+        match edge_of(self.plan.sources.as_slice(), port) {
+            None => None,
+            Some(edge) => self.d.first(edge),
+        }
+    }
+}
+
+impl<'a> Network<'a> {
+    // Whether a leaf may put a beat of a request onto an edge.
+    #[tactic(auto, using(crate::proofs::Buffers::enabled_forward_a))]
+    fn may_forward_a(&self, leaf: u32, input: u32, output: u32, id: u32) -> bool
+        ensures { result ≡ spec.is_enabled self.now (ForwardA leaf input output id) }
+    {
+        match way_down(self.plan, leaf, input, output, id) {
+            None => false,
+            Some((from, to)) => self.a.may_pass(from, to),
+        }
+    }
+
+    // Whether a leaf may put a beat of a response onto an edge.
+    #[tactic(auto, using(crate::proofs::Buffers::enabled_forward_d))]
+    fn may_forward_d(&self, leaf: u32, input: u32, output: u32) -> bool
+        ensures { result ≡ spec.is_enabled self.now (ForwardD leaf input output) }
+    {
+        match way_up(self.plan, leaf, input, output) {
+            None => false,
+            Some((from, to)) => self.d.may_pass(from, to),
+        }
+    }
+
+    // Whether a source port may put this beat onto its edge.
+    fn may_enter(&self, port: u32, beat: ABeat, tag: Tag) -> bool
+        ensures { result ≡ spec.is_enabled self.now (Enter port beat tag) }
+    {
+        match edge_of(self.plan.sources.as_slice(), port) {
+            None => false,
+            Some(edge) => self.a.has_room(edge),
+        }
+    }
+
+    // Whether a sink port may put this beat onto its edge.
+    fn may_reply(&self, port: u32, beat: DBeat, tag: Tag) -> bool
+        ensures { result ≡ spec.is_enabled self.now (Reply port beat tag) }
+    {
+        match edge_of(self.plan.sinks.as_slice(), port) {
+            None => false,
+            Some(edge) => self.d.has_room(edge),
+        }
+    }
+
+    // Whether a sink port may take a beat from its edge.
+    fn may_leave(&self, port: u32) -> bool
+        ensures { result ≡ spec.is_enabled self.now (Leave port) }
+    {
+        match edge_of(self.plan.sinks.as_slice(), port) {
+            None => false,
+            Some(edge) => self.a.first(edge).is_some(),
+        }
+    }
+
+    // Whether a source port may take a beat from its edge.
+    fn may_return(&self, port: u32) -> bool
+        ensures { result ≡ spec.is_enabled self.now (Return port) }
+    {
+        match edge_of(self.plan.sources.as_slice(), port) {
+            None => false,
+            Some(edge) => self.d.first(edge).is_some(),
+        }
+    }
+
+    // Whether a leaf may take a beat into its own state: no buffer does.
+    #[tactic(auto, using(crate::proofs::Buffers::enabled_absorb_a, crate::proofs::Buffers::enabled_absorb_d))]
+    fn may_absorb(&self, leaf: u32) -> bool
+        ensures a { result ≡ spec.is_enabled self.now (AbsorbA leaf) }
+        ensures d { result ≡ spec.is_enabled self.now (AbsorbD leaf) }
+    {
+        let _ = &self.plan;
+        false
+    }
+
+    /// Whether a move may be made: it names what is there, and has the head and the room that it needs.
+    pub fn enabled(&self, step: &Move) -> bool
+        ensures { result ≡ spec.is_enabled self.now step.now }
+    {
+        match *step {
+            Move::Enter { port, beat, tag } => self.may_enter(port, beat, tag),
+            Move::Leave { port } => self.may_leave(port),
+            Move::Reply { port, beat, tag } => self.may_reply(port, beat, tag),
+            Move::Return { port } => self.may_return(port),
+            Move::AbsorbA { leaf } | Move::AbsorbD { leaf } => self.may_absorb(leaf),
+            Move::ForwardA {
+                leaf,
+                input,
+                output,
+                id,
+            } => self.may_forward_a(leaf, input, output, id),
+            Move::ForwardD {
+                leaf,
+                input,
+                output,
+            } => self.may_forward_d(leaf, input, output),
+        }
+    }
+}
+
+impl<'a> Network<'a> {
+    // A leaf puts a beat of a request onto an edge.
+    #[tactic(auto, using(crate::proofs::Buffers::enabled_forward_a, crate::proofs::Buffers::after_forward_a))]
+    fn forward_a(&mut self, leaf: u32, input: u32, output: u32, id: u32)
+        requires { IsTrue (spec.is_enabled self.old (ForwardA leaf input output id)) }
+        ensures { self.new ≡ spec.after self.old (ForwardA leaf input output id) }
+    {
+        if let Some((from, to)) = way_down(self.plan, leaf, input, output, id) {
+            self.a.pass(from, to);
+        }
+    }
+
+    // A leaf puts a beat of a response onto an edge.
+    #[tactic(auto, using(crate::proofs::Buffers::enabled_forward_d, crate::proofs::Buffers::after_forward_d))]
+    fn forward_d(&mut self, leaf: u32, input: u32, output: u32)
+        requires { IsTrue (spec.is_enabled self.old (ForwardD leaf input output)) }
+        ensures { self.new ≡ spec.after self.old (ForwardD leaf input output) }
+    {
+        if let Some((from, to)) = way_up(self.plan, leaf, input, output) {
+            self.d.pass(from, to);
+        }
+    }
+
+    // A source port puts a beat onto its edge.
+    fn enter(&mut self, port: u32, beat: ABeat, tag: Tag)
+        requires { IsTrue (spec.is_enabled self.old (Enter port beat tag)) }
+        ensures { self.new ≡ spec.after self.old (Enter port beat tag) }
+    {
+        if let Some(edge) = edge_of(self.plan.sources.as_slice(), port) {
+            self.a.put(edge, (beat, tag));
+        }
+    }
+
+    // A sink port puts a beat onto its edge.
+    fn reply(&mut self, port: u32, beat: DBeat, tag: Tag)
+        requires { IsTrue (spec.is_enabled self.old (Reply port beat tag)) }
+        ensures { self.new ≡ spec.after self.old (Reply port beat tag) }
+    {
+        if let Some(edge) = edge_of(self.plan.sinks.as_slice(), port) {
+            self.d.put(edge, (beat, tag));
+        }
+    }
+
+    // A sink port takes a beat from its edge.
+    #[tactic(auto, using(crate::proofs::Buffers::after_leave))]
+    fn leave(&mut self, port: u32)
+        requires { IsTrue (spec.is_enabled self.old (Leave port)) }
+        ensures { self.new ≡ spec.after self.old (Leave port) }
+    {
+        if let Some(edge) = edge_of(self.plan.sinks.as_slice(), port) {
+            self.a.take(edge);
+        }
+    }
+
+    // A source port takes a beat from its edge.
+    #[tactic(auto, using(crate::proofs::Buffers::after_return))]
+    fn give_back(&mut self, port: u32)
+        requires { IsTrue (spec.is_enabled self.old (Return port)) }
+        ensures { self.new ≡ spec.after self.old (Return port) }
+    {
+        if let Some(edge) = edge_of(self.plan.sources.as_slice(), port) {
+            self.d.take(edge);
+        }
+    }
+
+    // A leaf takes a beat into its own state, as no buffer does.
+    #[tactic(auto, using(crate::proofs::Buffers::after_absorb_a, crate::proofs::Buffers::after_absorb_d))]
+    fn absorb(&mut self, leaf: u32)
+        ensures a { self.new ≡ spec.after self.old (AbsorbA leaf) }
+        ensures d { self.new ≡ spec.after self.old (AbsorbD leaf) }
+    {
+        let _ = &self.plan;
+    }
+
+    /// Makes a move that may be made, and takes no memory.
+    pub fn apply(&mut self, step: &Move)
+        requires { IsTrue (spec.is_enabled self.old step.now) }
+        ensures { self.new ≡ spec.after self.old step.now }
+    {
+        match *step {
+            Move::Enter { port, beat, tag } => self.enter(port, beat, tag),
+            Move::Leave { port } => self.leave(port),
+            Move::Reply { port, beat, tag } => self.reply(port, beat, tag),
+            Move::Return { port } => self.give_back(port),
+            Move::AbsorbA { leaf } | Move::AbsorbD { leaf } => self.absorb(leaf),
+            Move::ForwardA {
+                leaf,
+                input,
+                output,
+                id,
+            } => self.forward_a(leaf, input, output, id),
+            Move::ForwardD {
+                leaf,
+                input,
+                output,
+            } => self.forward_d(leaf, input, output),
+        }
+    }
+}
