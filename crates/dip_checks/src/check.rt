@@ -56,7 +56,13 @@ fn solved(alloc: Global, rules: &Rules, design: &Design, edges: &Edges) -> Resul
         rules.now) design.now edges.now))) }
 {
     let solution = agreed(alloc, design, edges, rules)?;
-    ports_are_sound(alloc, rules, design.nodes.as_slice(), edges.as_slice(), &solution)?;
+    ports_are_sound(
+        alloc,
+        rules,
+        design.nodes.as_slice(),
+        edges.as_slice(),
+        &solution,
+    )?;
     Ok(solution)
 }
 

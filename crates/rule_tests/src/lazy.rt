@@ -94,7 +94,11 @@ fn show_kept(rt: &HostRuntime, lazy: &Lazy<'_>, edges: u32) -> Result<(), Broken
 
 // What was asked of the counting rules since the last time.
 fn show_asked(rt: &HostRuntime, counters: &Counters) -> Result<(), Broken> {
-    Ok(print!(rt; " asked {} {};", counters.one.replace(0), counters.two.replace(0))?)
+    Ok(print!(rt;
+        " asked {} {};",
+        counters.one.replace(0),
+        counters.two.replace(0)
+    )?)
 }
 
 // A step of a line: `down.EDGE`, `up.EDGE`, `kept.EDGES`, `short` or `asked`.
@@ -124,12 +128,7 @@ fn step(
 }
 
 // The steps of a line on demand, and then all ports that are left.
-fn walk(
-    rt: &HostRuntime,
-    lazy: Lazy<'_>,
-    counters: &Counters,
-    steps: &str,
-) -> Result<(), Broken>
+fn walk(rt: &HostRuntime, lazy: Lazy<'_>, counters: &Counters, steps: &str) -> Result<(), Broken>
     requires is { IsLazy (⟦<Rules as Stating>⟧.stated lazy.rules.now) lazy.design.now lazy.edges.now
         lazy.down_turns lazy.down.items lazy.up_turns lazy.up.items }
 {
@@ -178,7 +177,12 @@ fn demand_all(rt: &HostRuntime, lazy: &mut Lazy<'_>, edges: u32, seed: u32) -> R
     let mut state = seed;
     for _turn in 0..4000u32 {
         state = next(state);
-        if !demand_one(rt, lazy, (state / 65_536) % 2 == 0, (state / 131_072) % edges.max(1))? {
+        if !demand_one(
+            rt,
+            lazy,
+            (state / 65_536) % 2 == 0,
+            (state / 131_072) % edges.max(1),
+        )? {
             return Ok(false);
         }
     }

@@ -28,12 +28,7 @@ use tl_params::Template;
 use tl_rules::boxed_standard_rules;
 
 // The answer to a question; other lines have none.
-fn answer(
-    rt: &HostRuntime,
-    rules: &Rules,
-    counters: &Counters,
-    line: &str,
-) -> Result<(), Broken> {
+fn answer(rt: &HostRuntime, rules: &Rules, counters: &Counters, line: &str) -> Result<(), Broken> {
     let (question, text) = halves(line, ' ');
     match question {
         "order" => ask_order(rt, text),

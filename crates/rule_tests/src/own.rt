@@ -148,11 +148,14 @@ pub fn counting_rule(
     asked: &Rc<Cell<u32>>,
     short: &Rc<Cell<bool>>,
 ) -> Result<Box<Counting>, Memory> {
-    Ok(Box::new(alloc, Counting {
+    Ok(Box::new(
         alloc,
-        asked: asked.clone()?,
-        short: short.clone()?,
-    })?)
+        Counting {
+            alloc,
+            asked: asked.clone()?,
+            short: short.clone()?,
+        },
+    )?)
 }
 
 /// A rule that refuses up, in a box of its own.
