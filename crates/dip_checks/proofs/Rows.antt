@@ -1,5 +1,5 @@
 -- Sets in a row have no common address, and the order of sets doesn't matter for that.
-use Rattle.std.proofs.Common.{ℕ, zero, suc, ◌≡◌, ◌+◌, ◌-◌, ◌<◌, ◌≤◌, drop, List, [], ◌∷◌, ◌++◌, ◌⊎◌, inl, inr, get_or, subst, Bool, true, false, ◌||◌, length, min, max, bit_and, bit_or, refl, sym, ◌∙◌, ap, arith}
+use Rattle.std.proofs.Common.{ℕ, zero, suc, ◌≡◌, ◌+◌, ◌-◌, ◌<◌, ◌≤◌, drop, List, [], ◌∷◌, ◌++◌, inl, inr, get_or, subst, Bool, true, false, ◌||◌, length, min, max, bit_and, bit_or, refl, sym, ◌∙◌, ap, arith}
 use Rattle.std.specs.Prelude.{All, AllPairs}
 use Rattle.std.specs.Int.{bit_at}
 use Rattle.std.specs.List.{AllAdjacentBelow, AllByRecursion, IsDistinct, list_any}

@@ -8,6 +8,10 @@ use crate::negotiated::Negotiated;
 use dip_lists::{Items, MOST_ITEMS, Memory};
 use std::alloc::Global;
 
+/// How many masters or slaves all edges together are given at most. Slaves of 144 bytes are then a gigabyte
+/// and a fifth. An accepted design has at most 1,024 edges with 1,024 of each.
+const MOST_GIVEN: usize = 8_388_608;
+
 /// So many ports of which none is known.
 pub fn nothing<P: Drop>(alloc: Global, count: usize) -> Result<Vec<Option<P>>, Memory>
     ensures { IfOk result (λ ports. ports.items ≡ replicate count None) }
@@ -145,7 +149,7 @@ fn take<P: Negotiated>(
 }
 
 /// The ports of all edges, of those that are known, each copied for all edges of its place but the last;
-/// `Memory` where they have more than `MOST_ENTRIES` masters or slaves together.
+/// `Memory` where they have more than `MOST_GIVEN` masters or slaves together.
 #[tactic(auto, using(crate::proofs::Picks::beside_more))]
 pub fn kept_ports<P: Negotiated>(
     alloc: Global,
@@ -153,11 +157,11 @@ pub fn kept_ports<P: Negotiated>(
     ports: Vec<Option<P>>,
 ) -> Result<Items<P>, Memory>
     ensures value { IfOk result (λ some. some ≡ spec.kept_ports (spec.seen firsts.now ports.items)) }
-    ensures bounded { IfOk result (λ some. sum (map P.count some) ≤ P.MOST_ENTRIES) }
+    ensures bounded { IfOk result (λ some. sum (map P.count some) ≤ 8388608) }
 {
     let mut ports = ports;
     let mut some = Items::new(alloc);
-    let mut room = P::MOST_ENTRIES;
+    let mut room = MOST_GIVEN;
     for edge in 0..firsts.len() {
         let first = firsts[edge];
         room = room_beside(at(&ports, first), room)?;

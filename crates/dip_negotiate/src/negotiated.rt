@@ -28,7 +28,7 @@ pub trait Negotiated: Duplicate {
 
     ghost MOST_ENTRIES: { ℕ };
 
-    /// How many masters or slaves are kept together at most, and given together at the end.
+    /// How many masters or slaves are kept together at most.
     const MOST_ENTRIES: usize;
 
     /// The end of an edge at the node that makes its port.

@@ -1,7 +1,7 @@
 -- What the answers of single standard rules are.
-use Rattle.std.proofs.Common.{ℕ, ◌≡◌, ◌≤◌, ◌<◌, min, max, List, [], ◌∷◌, Bool, true, false, ◌&&◌, ◌||◌, ◌==◌, ◌⊎◌, inl, inr, cond, nat_le, IsTrue, Option, Some, None, Result, Ok, Err, refl, sym, ap, ◌∙◌, subst, arith, le-leb}
+use Rattle.std.proofs.Common.{ℕ, ◌≡◌, ◌≤◌, min, max, List, [], ◌∷◌, Bool, true, false, ◌&&◌, ◌||◌, ◌==◌, ◌⊎◌, inl, inr, cond, nat_le, IsTrue, Option, Some, None, Result, Ok, Err, refl, sym, ap, ◌∙◌, subst, arith, le-leb}
 use Rattle.std.specs.Prelude.{Contains}
-use Rattle.std.proofs.lemmas.Bool.{and_from, and_parts, cases_eq, eqb-true, eq-eqb, leb-true, or_cases}
+use Rattle.std.proofs.lemmas.Bool.{and_from, and_parts, eqb-true, eq-eqb, leb-true, or_cases}
 use Rattle.dip_sets.specs.SizeRanges.{SizeRange, is_within, cover}
 use Rattle.dip_lists.proofs.Pairs.{nowhere, within_cases}
 use Rattle.tl_params.specs.declared.ops.Ops.{Ops}
@@ -10,8 +10,8 @@ use Rattle.tl_params.specs.declared.ports.DownPort.{DownPort}
 use Rattle.tl_params.specs.declared.ports.UpPort.{UpPort}
 use Rattle.tl_params.specs.Arguments.{is_width, shrink_argument}
 use Rattle.tl_params.specs.Carried.{ops_fit}
-use Rattle.tl_rules.specs.Refusals.{only, with_arguments, with_port}
-use Rattle.tl_rules.specs.Adapters.{width_argument, width_up, with_beat}
+use Rattle.tl_rules.specs.Refusals.{with_arguments}
+use Rattle.tl_rules.specs.Adapters.{width_up, with_beat}
 use Rattle.tl_rules.specs.Crossbars.{joined_port, xbar_up}
 use Rattle.tl_rules.specs.Shrinks.{cover_emits, cover_ops, shrunk_port, shrinker_down}
 use Rattle.tl_rules.specs.RulesAnswer.{RulesAnswerLaw}

@@ -1,4 +1,3 @@
-use Rattle.std.proofs.Common.{◌≡◌}
 use Rattle.dip_checks.proofs.Rows.{neighbours_on}
 use Rattle.dip_checks.proofs.sets.neighbours_overlap.Goals as goal
 

@@ -15,11 +15,11 @@ loop-edge-preserved g c =
       | then-stands_behind+in_ok-pick w ↦ (
           let copied = w.at-then-stands_behind.ensures ∙ ap (λ xs. get_or xs first None) w.deref-then-stands_behind.ensures.value in
           on g.P.Negotiated.count c.args.firsts.now c.args.ports.items c.loop-edge.ports.items c.if-stands_behind.ports.items c.loop-edge.some c.if-stands_behind.some c.loop-edge.edge c.loop-edge.room c.in_ok-room.room
-          g.P.Negotiated.MOST_ENTRIES c.loop-edge-test.true (w.some-is ∙ w.in_ok-pick.ensures ∙ ap (λ o. c.loop-edge.some ++ beside o []) copied)
+          8388608 c.loop-edge-test.true (w.some-is ∙ w.in_ok-pick.ensures ∙ ap (λ o. c.loop-edge.some ++ beside o []) copied)
           (ap (λ v. seen (drop (c.loop-edge.edge + 1) c.args.firsts.now) v.items) w.ports-is) room c.loop-edge.invariant)
       | else-stands_behind+in_ok-take w ↦ (
           on g.P.Negotiated.count c.args.firsts.now c.args.ports.items c.loop-edge.ports.items c.if-stands_behind.ports.items c.loop-edge.some c.if-stands_behind.some c.loop-edge.edge c.loop-edge.room c.in_ok-room.room
-          g.P.Negotiated.MOST_ENTRIES c.loop-edge-test.true (w.some-is ∙ w.in_ok-take.ensures.some)
+          8388608 c.loop-edge-test.true (w.some-is ∙ w.in_ok-take.ensures.some)
           (ap (λ v. seen (drop (c.loop-edge.edge + 1) c.args.firsts.now) v.items) w.ports-is
           ∙ ap (λ xs. seen (drop (c.loop-edge.edge + 1) c.args.firsts.now) xs) w.in_ok-take.ensures.ports
           ∙ seen_apart (drop (c.loop-edge.edge + 1) c.args.firsts.now) c.loop-edge.ports.items first None (sym c.stands_behind.ensures ∙ w.if-stands_behind.false))
