@@ -3,8 +3,9 @@
 
     bench/map_hard.py
 
-`wide` has many address sets on many edges, `growing` other sets on each edge, and `doubling` asks for more slaves than
-any machine holds.
+`wide` has many address sets on many edges, `growing` other sets on each edge, and `holes` the same with sets in two
+pieces. `ladder` doubles its slaves beside many that don't, `joined` has many sources on many edges of two crossbars, and
+`doubling` asks for more slaves than any machine holds.
 """
 
 import resource
@@ -26,36 +27,67 @@ def design(nodes, binds):
     return 'version = 1\nname = "hard"\nnode = [%s]\nbind = [%s]\n' % (",\n".join(nodes), ",\n".join(binds))
 
 
-def sink(name, first, ports):
+def sink(name, first, ports, mask=15):
     """A sink whose ports have 16 sets each; the first port is this one of all."""
     sets = []
     for port in range(first, first + ports):
-        sets.append("[%s]" % ",".join("[%d, 15]" % ((port * 16 + n) * 16) for n in range(16)))
+        sets.append("[%s]" % ",".join("[%d, %d]" % ((port * 16 + n) * 16, mask) for n in range(16)))
     return '{name = "%s", kind = "sink", beat = 8, addresses = [%s], supports = {get = [1, 8]}}' % (name, ",".join(sets))
 
 
-def wide(crossbars=117, sinks=8, own=0):
+def wide(crossbars=117, sinks=8, own=0, mask=15):
     """Two sources, crossbars in a row, the first with sinks of their own, and sinks of 64 ports behind the last of them."""
     nodes = [SOURCE % 0, SOURCE % 1] + ['{name = "x%d", kind = "xbar"}' % k for k in range(crossbars)]
     binds = [bind("x0", "s0"), bind("x0", "s1")] + [bind("x%d" % (k + 1), "x%d" % k) for k in range(crossbars - 1)]
     for k in range(own):
-        nodes.append(sink("q%d" % k, k, 1))
+        nodes.append(sink("q%d" % k, k, 1, mask))
         binds.append(bind("q%d" % k, "x%d" % k))
     for k in range(sinks):
-        nodes.append(sink("r%d" % k, own + k * 64, 64))
+        nodes.append(sink("r%d" % k, own + k * 64, 64, mask))
         binds.append(bind("r%d" % k, "x%d" % (crossbars - 1), ":*="))
     return design(nodes, binds)
 
 
-def doubling(steps=126):
+def steps_between(steps):
     """Crossbars and shrinkers in turn, each step bound twice: each crossbar shows twice the slaves of the next."""
     nodes = [SOURCE % 0, '{name = "x0", kind = "xbar"}']
     binds = [bind("x0", "s0")]
     for k in range(1, steps + 1):
         nodes += ['{name = "h%d", kind = "shrinker", args = [1]}' % k, '{name = "x%d", kind = "xbar"}' % k]
         binds += [bind("h%d" % k, "x%d" % (k - 1))] * 2 + [bind("x%d" % k, "h%d" % k)] * 2
+    return nodes, binds
+
+
+def doubling(steps=126):
+    """The steps in front of one sink."""
+    nodes, binds = steps_between(steps)
     nodes.append('{name = "r", kind = "sink", beat = 8, addresses = [[[0x1000, 0xfff]]], supports = {get = [1, 8]}}')
     binds.append(bind("r", "x%d" % steps))
+    return design(nodes, binds)
+
+
+def ladder(steps, sinks):
+    """The steps in front of a sink with 16 sets, and sinks of 64 ports with lower sets at the first crossbar."""
+    nodes, binds = steps_between(steps)
+    for k in range(sinks):
+        nodes.append(sink("u%d" % k, k * 64, 64))
+        binds.append(bind("u%d" % k, "x0", ":*="))
+    nodes.append(sink("r", 1 << 39, 1))
+    binds.append(bind("r", "x%d" % steps))
+    return design(nodes, binds)
+
+
+def joined(between, sources=8, ports=62, sinks=7, outs=57):
+    """Sources of many ports at a crossbar, so many binds to a second one, and sinks of many ports behind that."""
+    nodes = ['{name = "a", kind = "xbar"}', '{name = "b", kind = "xbar"}']
+    binds = []
+    for k in range(sources):
+        nodes.append('{name = "s%d", kind = "source", ports = %d, ids = 1, emits = {get = [1, 8]}}' % (k, ports))
+        binds.append(bind("a", "s%d" % k, ":=*"))
+    binds += [bind("b", "a")] * between
+    for k in range(sinks):
+        nodes.append(sink("r%d" % k, k * outs, outs))
+        binds.append(bind("r%d" % k, "b", ":*="))
     return design(nodes, binds)
 
 
@@ -78,6 +110,9 @@ def main():
         subprocess.run([TOP / "soc", "map", TOP / "examples/one.toml"], stdout=subprocess.DEVNULL, check=True)
     run("wide", wide())
     run("growing", wide(crossbars=100, own=100))
+    run("holes", wide(crossbars=60, sinks=13, own=60, mask=15 | 1 << 47))
+    run("ladder", ladder(16, 8))
+    run("joined", joined(20))
     run("doubling", doubling())
 
 
