@@ -1,4 +1,4 @@
--- Networks of buffers, whose leaves keep nothing: which plans they are built of, and what a move of a leaf does in them.
+-- Networks of buffers, whose leaves keep nothing: the plans that they are built of, and what a leaf's move does there.
 use Rattle.std.specs.Prelude.{ℕ, ◌≡◌, Bool, true, ◌&&◌, List, map, All, Option, Some, is_some}
 use Rattle.std.specs.Option.{option_map_or}
 use Rattle.tl_params.specs.declared.ops.Template.TheVariants.{Buffer}

@@ -1,4 +1,4 @@
--- Worked examples of moves: between one source and one sink stands a buffer, or a fragmenter with pieces of eight bytes.
+-- Worked examples of moves: between one source and one sink stands a buffer, or a fragmenter with pieces of 8 bytes.
 use Rattle.std.specs.Prelude.{ℕ, ◌≡◌, true, false, List, [], ◌∷◌, codes, Some, None}
 use Rattle.tl_params.specs.declared.ops.Policy.TheVariants.{Lowest}
 use Rattle.tl_params.specs.declared.ops.Template.{Template}
@@ -84,8 +84,8 @@ cutting a_above a_below d_above d_below hand = record {
   leaves = record { leaf = FragmenterState pieces_of_8 (Some hand); tag = tag_of_get 2 } ∷ [];
 }
 
--- the first piece takes the head, and its tag is 2 times 2 pieces; the second needs no head, and its tag is one more; an
--- answer is absorbed, and no forward; and the whole response has the tag of the head
+-- the first piece takes the head, and its tag is 2 times 2 pieces; the second needs no head, and its tag is one more;
+-- an answer is absorbed, and no forward; and the whole response has the tag of the head
 pub record CuttingExample : Type 0 where
   pub first : after
       (record {
