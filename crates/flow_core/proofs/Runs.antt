@@ -8,7 +8,7 @@ use Rattle.tl_edge.specs.declared.plan.Plan.{Plan}
 use Rattle.flow_core.specs.declared.moves.Move.{Move}
 use Rattle.flow_core.specs.declared.queue.Flow.{Flow}
 use Rattle.flow_core.specs.Tags.{Held}
-use Rattle.flow_core.specs.Queues.{queue, may_flow, has_head, has_room, has_place, taken, with_beat, flowed}
+use Rattle.flow_core.specs.Queues.{queue, may_flow, has_head, has_room, has_place, taken, put_last, flowed}
 use Rattle.flow_core.specs.Network.{State, Job, job, network_at_start, may_do, with_leaf, is_enabled, done, state_after, held_at_start, RunsTo}
 use Rattle.flow_core.specs.Shapes.{AreQueues, IsOf, ShapeLaw}
 
@@ -47,7 +47,7 @@ module _ {B : Type 0} where
   as_many None qs = refl
   as_many (Some f) qs = length-set qs f (drop 1 (queue qs f))
 
-  as_many_joined : (p : Option (ℕ × B)) (qs : List (List B)) → length (with_beat p qs) ≡ length qs
+  as_many_joined : (p : Option (ℕ × B)) (qs : List (List B)) → length (put_last p qs) ≡ length qs
   as_many_joined None qs = refl
   as_many_joined (Some p) qs = length-set qs p.0 (queue qs p.0 ++ p.1 ∷ [])
 
@@ -55,7 +55,7 @@ module _ {B : Type 0} where
   Room qs None = Unit {0}
   Room qs (Some p) = (p.0 < length qs) × (length (queue qs p.0) < 2)
 
-  two_joined : (p : Option (ℕ × B)) (qs : List (List B)) → Room qs p → ((e : ℕ) → length (queue qs e) ≤ 2) → (e : ℕ) → length (queue (with_beat p qs) e) ≤ 2
+  two_joined : (p : Option (ℕ × B)) (qs : List (List B)) → Room qs p → ((e : ℕ) → length (queue qs e) ≤ 2) → (e : ℕ) → length (queue (put_last p qs) e) ≤ 2
   unfolding Room
   two_joined None qs r h e = h e
   two_joined (Some p) qs r h e =

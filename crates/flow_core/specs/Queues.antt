@@ -60,10 +60,10 @@ taken None queues = queues
 taken (Some edge) queues = set queues edge (drop 1 (queue queues edge))
 
 -- with a beat more at the end of an edge's queue
-abbrev pub with_beat : {B : Type 0} → Option (ℕ × B) → List (List B) → List (List B)
-with_beat None queues = queues
-with_beat (Some put) queues = set queues put.0 (queue queues put.0 ++ put.1 ∷ [])
+abbrev pub put_last : {B : Type 0} → Option (ℕ × B) → List (List B) → List (List B)
+put_last None queues = queues
+put_last (Some put) queues = set queues put.0 (queue queues put.0 ++ put.1 ∷ [])
 
 -- the queues after the move: first the head is taken, then the beat is put
 abbrev pub flowed : {B : Type 0} → Flow B → List (List B) → List (List B)
-flowed flow queues = with_beat flow.put (taken (cond flow.take flow.from None) queues)
+flowed flow queues = put_last flow.put (taken (cond flow.take flow.from None) queues)

@@ -158,7 +158,7 @@ impl<T: Copy + Drop> Queues<T> {
     /// Puts a beat onto an edge.
     pub fn put(&mut self, edge: u32, beat: T)
         requires { IsTrue (spec.has_room_at self.old edge) }
-        ensures { self.new ≡ spec.with_beat (Some (edge, beat)) self.old }
+        ensures { self.new ≡ spec.put_last (Some (edge, beat)) self.old }
     {
         let queue = &mut self.all[edge as usize];
         queue.put(beat);

@@ -32,7 +32,7 @@ fn buffers(alloc: Global) -> Result<Leaves, Memory>
 }
 
 // An edge with two ids and a bus of eight bytes.
-fn edge(alloc: Global) -> PlanEdge {
+fn two_ids(alloc: Global) -> PlanEdge {
     let bundle = Bundle {
         address_bits: 32,
         data_bytes: 8,
@@ -49,9 +49,9 @@ fn edge(alloc: Global) -> PlanEdge {
 // Three edges.
 fn edges(alloc: Global) -> Result<PlanEdges, Memory> {
     let mut edges = Items::new(alloc);
-    edges.push(edge(alloc))?;
-    edges.push(edge(alloc))?;
-    edges.push(edge(alloc))?;
+    edges.push(two_ids(alloc))?;
+    edges.push(two_ids(alloc))?;
+    edges.push(two_ids(alloc))?;
     Ok(edges)
 }
 

@@ -1,6 +1,6 @@
 //! Moves of a network between two sources and two sinks, with a buffer on one of the two ways: each line of
-//! the input offers the moves of a cycle, and the program makes those that may be made at its start and prints
-//! what passed the ports.
+//! the input offers the moves of a cycle, and the program makes those that may be made at its start and
+//! prints what passed the ports.
 #![tactic(auto)]
 
 mod beats;
