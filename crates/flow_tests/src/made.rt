@@ -16,21 +16,6 @@ fn only(alloc: Global, number: u32) -> Result<Numbers, Memory> {
     Ok(numbers)
 }
 
-// A buffer from edge 1 to edge 2.
-fn buffers(alloc: Global) -> Result<Leaves, Memory>
-    ensures { IfOk result (λ leaves. All (λ (leaf : TheLeaf). leaf.template ≡ Buffer) leaves) }
-{
-    let leaf = Leaf {
-        template: Template::Buffer,
-        ins: only(alloc, 1)?,
-        outs: only(alloc, 2)?,
-        args: Items::new(alloc),
-    };
-    let mut leaves = Items::new(alloc);
-    leaves.push(leaf)?;
-    Ok(leaves)
-}
-
 // An edge with two ids and a bus of eight bytes.
 fn two_ids(alloc: Global) -> PlanEdge {
     let bundle = Bundle {
@@ -53,6 +38,21 @@ fn edges(alloc: Global) -> Result<PlanEdges, Memory> {
     edges.push(two_ids(alloc))?;
     edges.push(two_ids(alloc))?;
     Ok(edges)
+}
+
+// A buffer from edge 1 to edge 2.
+fn buffers(alloc: Global) -> Result<Leaves, Memory>
+    ensures { IfOk result (λ leaves. All (λ (leaf : TheLeaf). leaf.template ≡ Buffer) leaves) }
+{
+    let leaf = Leaf {
+        template: Template::Buffer,
+        ins: only(alloc, 1)?,
+        outs: only(alloc, 2)?,
+        args: Items::new(alloc),
+    };
+    let mut leaves = Items::new(alloc);
+    leaves.push(leaf)?;
+    Ok(leaves)
 }
 
 // A name.
