@@ -14,19 +14,19 @@ use Rattle.tl_edge.specs.declared.plan.PlanEdge.{PlanEdge}
 use Rattle.tl_edge.specs.declared.plan.Plan.{Plan}
 use Rattle.flow_core.specs.declared.moves.Move.TheVariants.{Leave, Return, AbsorbA, AbsorbD, ForwardA, ForwardD}
 use Rattle.flow_core.specs.Acts.{Act, forwards}
-use Rattle.flow_core.specs.Leaves.{at_start}
+use Rattle.flow_core.specs.Leaves.{idle_state}
 use Rattle.flow_core.specs.Leaves.LeafState.{BufferState}
 use Rattle.flow_core.specs.Tags.{Held, no_tag, tagged, tagged_down, held_down, held_up}
-use Rattle.flow_core.specs.Queues.{queue, first, takes, taken, may_flow, has_room_at, flowed}
-use Rattle.flow_core.specs.Network.{Part, edge_of_port, port_job_a, port_job_d, held_at_start, by_head, part, both, part_down, part_up, part_a, part_d, forwarding, absorbing, leaf_job_a, leaf_job_d, may_do, is_enabled, done, after}
-use Rattle.flow_core.specs.Built.{IsBuilt, network, ends, ends_back, may_pass, passed}
+use Rattle.flow_core.specs.Queues.{queue, head_in, takes, taken, may_flow, has_room_at, flowed}
+use Rattle.flow_core.specs.Network.{Part, edge_of_port, port_job_a, port_job_d, held_at_start, by_head, part_between, both, part_down, part_up, part_a, part_d, forwarding, absorbing, leaf_job_a, leaf_job_d, may_do, is_enabled, done, state_after}
+use Rattle.flow_core.specs.Built.{IsBuilt, network, pass_edges, pass_edges_back, may_pass, passed}
 
 buffer_held : Held
 buffer_held = record { leaf = BufferState; tag = no_tag }
 
 -- ---- the leaves
 
-started : (t : Template) → t ≡ Buffer → (args : List ℕ) (ins outs : List PlanEdge) → at_start t args ins outs ≡ BufferState
+started : (t : Template) → t ≡ Buffer → (args : List ℕ) (ins outs : List PlanEdge) → idle_state t args ins outs ≡ BufferState
 started t e args ins outs = rw e refl
 
 IsBuffer : Leaf → Type 0
@@ -58,7 +58,7 @@ passes beat = record { take = true; put = Some beat; next = buffer_held }
 
 -- by the ends of a buffer
 at_ends : {B : Type 0} → List (List B) → Option (ℕ × ℕ) → Option (Part B)
-at_ends queues es = option_and_then (λ (e : ℕ × ℕ). option_map (passing e.0 e.1) (first (queue queues e.0))) es
+at_ends queues es = option_and_then (λ (e : ℕ × ℕ). option_map (passing e.0 e.1) (head_in (queue queues e.0))) es
 
 one : {B : Type 0} (ok : Bool) (act : B → Option (Act B Held)) (o : Option B) (f t : ℕ) → ((x : B) → act x ≡ cond ok (Some (passes x)) None)
     → option_map (by_head f t) (option_and_then act o) ≡ cond ok (option_map (passing f t) o) None
@@ -87,14 +87,14 @@ no_ends queues true = refl
 no_ends queues false = refl
 
 core : {B : Type 0} (ok : Bool) (ins outs : Option ℕ) (queues : List (List B)) (act : B → Option (Act B Held)) → ((x : B) → act x ≡ cond ok (Some (passes x)) None)
-    → both ins outs (λ f t. part queues f t None act) ≡ at_ends queues (ends_of ok ins outs)
+    → both ins outs (λ f t. part_between queues f t None act) ≡ at_ends queues (ends_of ok ins outs)
 unfolding at_ends ends_of
 core true None outs queues act h = refl
 core false None outs queues act h = refl
 core true (Some f) None queues act h = refl
 core false (Some f) None queues act h = refl
-core true (Some f) (Some t) queues act h = one true act (first (queue queues f)) f t h
-core false (Some f) (Some t) queues act h = one false act (first (queue queues f)) f t h
+core true (Some f) (Some t) queues act h = one true act (head_in (queue queues f)) f t h
+core false (Some f) (Some t) queues act h = one false act (head_in (queue queues f)) f t h
 
 down_if : (ok : Bool) (x : ABeat × Tag) → option_map (tagged_down x.1 no_tag) (cond ok (Some (forwards x.0 BufferState)) None) ≡ cond ok (Some (passes x)) None
 unfolding buffer_held passes
@@ -137,16 +137,16 @@ part_d_from (Some leaf) held e queues i o = rw e (core (0 == 0 && i == 0 && o ==
 at_ends_forward : {B : Type 0} (queues : List (List B)) (es : Option (ℕ × ℕ)) → option_and_then forwarding (at_ends queues es) ≡ at_ends queues es
 unfolding at_ends
 at_ends_forward queues None = refl
-at_ends_forward queues (Some e) = forward_one (first (queue queues e.0)) e.0 e.1
+at_ends_forward queues (Some e) = forward_one (head_in (queue queues e.0)) e.0 e.1
 
 at_ends_absorb : {B : Type 0} (queues : List (List B)) (es : Option (ℕ × ℕ)) → option_and_then absorbing (at_ends queues es) ≡ None
 unfolding at_ends
 at_ends_absorb queues None = refl
-at_ends_absorb queues (Some e) = absorb_one (first (queue queues e.0)) e.0 e.1
+at_ends_absorb queues (Some e) = absorb_one (head_in (queue queues e.0)) e.0 e.1
 
 -- ---- whether a buffer's move may be made
 
-may_one : {B : Type 0} (queues : List (List B)) (f t : ℕ) (o : Option B) → first (queue queues f) ≡ o
+may_one : {B : Type 0} (queues : List (List B)) (f t : ℕ) (o : Option B) → head_in (queue queues f) ≡ o
     → option_map_or (λ (p : Part B). may_flow queues p.flow) (option_map (passing f t) o) false ≡ is_some o && has_room_at queues t
 unfolding passing
 may_one queues f t None e = refl
@@ -156,7 +156,7 @@ may_at : {B : Type 0} (queues : List (List B)) (es : Option (ℕ × ℕ))
     → option_map_or (λ (p : Part B). may_flow queues p.flow) (at_ends queues es) false ≡ option_map_or (λ (e : ℕ × ℕ). may_pass queues e.0 e.1) es false
 unfolding at_ends
 may_at queues None = refl
-may_at queues (Some e) = may_one queues e.0 e.1 (first (queue queues e.0)) refl
+may_at queues (Some e) = may_one queues e.0 e.1 (head_in (queue queues e.0)) refl
 
 -- ---- and what it leaves
 
@@ -171,7 +171,7 @@ gone_at : {B : Type 0} (queues : List (List B)) (es : Option (ℕ × ℕ))
     → option_map_or (λ (p : Part B). flowed p.flow queues) (at_ends queues es) queues ≡ option_map_or (λ (e : ℕ × ℕ). passed queues e.0 e.1) es queues
 unfolding at_ends
 gone_at queues None = refl
-gone_at queues (Some e) = gone_one queues e.0 e.1 (first (queue queues e.0))
+gone_at queues (Some e) = gone_one queues e.0 e.1 (head_in (queue queues e.0))
 
 keeps_one : {B : Type 0} (f t : ℕ) (o : Option B) (p : Part B) → option_map (passing f t) o ≡ Some p → p.next ≡ buffer_held
 unfolding passing
@@ -181,7 +181,7 @@ keeps_one f t (Some x) p e = sym (ap (λ (p : Part _). p.next) (same_Some _ _ e)
 keeps_at : {B : Type 0} (queues : List (List B)) (es : Option (ℕ × ℕ)) (p : Part B) → at_ends queues es ≡ Some p → p.next ≡ buffer_held
 unfolding at_ends
 keeps_at queues None p e = absurd (none-some _ e)
-keeps_at queues (Some x) p e = keeps_one x.0 x.1 (first (queue queues x.0)) p e
+keeps_at queues (Some x) p e = keeps_one x.0 x.1 (head_in (queue queues x.0)) p e
 
 -- ---- the moves of leaves
 
@@ -193,11 +193,11 @@ module _ (plan : Plan) (built : IsBuilt plan) (a : List (List (ABeat × Tag))) (
   held : slice_get (map (held_at_start plan) plan.leaves) l ≡ option_map (λ (leaf : Leaf). buffer_held) (slice_get plan.leaves l)
   held = held_get plan plan.leaves l built
 
-  part_a_net : (i o id : ℕ) → part_a (network plan a d) l i o id ≡ at_ends a (ends plan l i o id)
+  part_a_net : (i o id : ℕ) → part_a (network plan a d) l i o id ≡ at_ends a (pass_edges plan l i o id)
   unfolding ends_of
   part_a_net i o id = part_a_from (slice_get plan.leaves l) _ held a id i o
 
-  part_d_net : (i o : ℕ) → part_d (network plan a d) l i o ≡ at_ends d (ends_back plan l i o)
+  part_d_net : (i o : ℕ) → part_d (network plan a d) l i o ≡ at_ends d (pass_edges_back plan l i o)
   unfolding ends_of
   part_d_net i o = part_d_from (slice_get plan.leaves l) _ held d i o
 
@@ -219,23 +219,23 @@ module _ (plan : Plan) (built : IsBuilt plan) (a : List (List (ABeat × Tag))) (
   done_job_d None h = refl
   done_job_d (Some p) h = ap (λ leaves. record { plan = plan; a = a; d = flowed p.flow d; leaves = leaves }) (ap (slice_set (map (held_at_start plan) plan.leaves) l) (h p refl) ∙ set_held plan plan.leaves l built)
 
-  parts_a : (i o id : ℕ) → option_and_then forwarding (part_a (network plan a d) l i o id) ≡ at_ends a (ends plan l i o id)
-  parts_a i o id = ap (option_and_then forwarding) (part_a_net i o id) ∙ at_ends_forward a (ends plan l i o id)
+  parts_a : (i o id : ℕ) → option_and_then forwarding (part_a (network plan a d) l i o id) ≡ at_ends a (pass_edges plan l i o id)
+  parts_a i o id = ap (option_and_then forwarding) (part_a_net i o id) ∙ at_ends_forward a (pass_edges plan l i o id)
 
-  parts_d : (i o : ℕ) → option_and_then forwarding (part_d (network plan a d) l i o) ≡ at_ends d (ends_back plan l i o)
-  parts_d i o = ap (option_and_then forwarding) (part_d_net i o) ∙ at_ends_forward d (ends_back plan l i o)
+  parts_d : (i o : ℕ) → option_and_then forwarding (part_d (network plan a d) l i o) ≡ at_ends d (pass_edges_back plan l i o)
+  parts_d i o = ap (option_and_then forwarding) (part_d_net i o) ∙ at_ends_forward d (pass_edges_back plan l i o)
 
   none_a : option_and_then absorbing (part_a (network plan a d) l 0 0 0) ≡ None
-  none_a = ap (option_and_then absorbing) (part_a_net 0 0 0) ∙ at_ends_absorb a (ends plan l 0 0 0)
+  none_a = ap (option_and_then absorbing) (part_a_net 0 0 0) ∙ at_ends_absorb a (pass_edges plan l 0 0 0)
 
   none_d : option_and_then absorbing (part_d (network plan a d) l 0 0) ≡ None
-  none_d = ap (option_and_then absorbing) (part_d_net 0 0) ∙ at_ends_absorb d (ends_back plan l 0 0)
+  none_d = ap (option_and_then absorbing) (part_d_net 0 0) ∙ at_ends_absorb d (pass_edges_back plan l 0 0)
 
-  pub enabled_forward_a : (i o id : ℕ) → is_enabled (network plan a d) (ForwardA l i o id) ≡ option_map_or (λ (e : ℕ × ℕ). may_pass a e.0 e.1) (ends plan l i o id) false
-  enabled_forward_a i o id = ap (λ p. option_map_or (may_do (network plan a d)) (option_map (leaf_job_a l) p) false) (parts_a i o id) ∙ may_job_a (at_ends a (ends plan l i o id)) ∙ may_at a (ends plan l i o id)
+  pub enabled_forward_a : (i o id : ℕ) → is_enabled (network plan a d) (ForwardA l i o id) ≡ option_map_or (λ (e : ℕ × ℕ). may_pass a e.0 e.1) (pass_edges plan l i o id) false
+  enabled_forward_a i o id = ap (λ p. option_map_or (may_do (network plan a d)) (option_map (leaf_job_a l) p) false) (parts_a i o id) ∙ may_job_a (at_ends a (pass_edges plan l i o id)) ∙ may_at a (pass_edges plan l i o id)
 
-  pub enabled_forward_d : (i o : ℕ) → is_enabled (network plan a d) (ForwardD l i o) ≡ option_map_or (λ (e : ℕ × ℕ). may_pass d e.0 e.1) (ends_back plan l i o) false
-  enabled_forward_d i o = ap (λ p. option_map_or (may_do (network plan a d)) (option_map (leaf_job_d l) p) false) (parts_d i o) ∙ may_job_d (at_ends d (ends_back plan l i o)) ∙ may_at d (ends_back plan l i o)
+  pub enabled_forward_d : (i o : ℕ) → is_enabled (network plan a d) (ForwardD l i o) ≡ option_map_or (λ (e : ℕ × ℕ). may_pass d e.0 e.1) (pass_edges_back plan l i o) false
+  enabled_forward_d i o = ap (λ p. option_map_or (may_do (network plan a d)) (option_map (leaf_job_d l) p) false) (parts_d i o) ∙ may_job_d (at_ends d (pass_edges_back plan l i o)) ∙ may_at d (pass_edges_back plan l i o)
 
   pub enabled_absorb_a : is_enabled (network plan a d) (AbsorbA l) ≡ false
   enabled_absorb_a = ap (λ p. option_map_or (may_do (network plan a d)) (option_map (leaf_job_a l) p) false) none_a
@@ -243,28 +243,28 @@ module _ (plan : Plan) (built : IsBuilt plan) (a : List (List (ABeat × Tag))) (
   pub enabled_absorb_d : is_enabled (network plan a d) (AbsorbD l) ≡ false
   enabled_absorb_d = ap (λ p. option_map_or (may_do (network plan a d)) (option_map (leaf_job_d l) p) false) none_d
 
-  pub after_forward_a : (i o id : ℕ) → after (network plan a d) (ForwardA l i o id) ≡ network plan (option_map_or (λ (e : ℕ × ℕ). passed a e.0 e.1) (ends plan l i o id) a) d
+  pub after_forward_a : (i o id : ℕ) → state_after (network plan a d) (ForwardA l i o id) ≡ network plan (option_map_or (λ (e : ℕ × ℕ). passed a e.0 e.1) (pass_edges plan l i o id) a) d
   after_forward_a i o id = ap (λ p. option_map_or (done (network plan a d)) (option_map (leaf_job_a l) p) (network plan a d)) (parts_a i o id)
-      ∙ done_job_a (at_ends a (ends plan l i o id)) (keeps_at a (ends plan l i o id))
-      ∙ ap (λ a. network plan a d) (gone_at a (ends plan l i o id))
+      ∙ done_job_a (at_ends a (pass_edges plan l i o id)) (keeps_at a (pass_edges plan l i o id))
+      ∙ ap (λ a. network plan a d) (gone_at a (pass_edges plan l i o id))
 
-  pub after_forward_d : (i o : ℕ) → after (network plan a d) (ForwardD l i o) ≡ network plan a (option_map_or (λ (e : ℕ × ℕ). passed d e.0 e.1) (ends_back plan l i o) d)
+  pub after_forward_d : (i o : ℕ) → state_after (network plan a d) (ForwardD l i o) ≡ network plan a (option_map_or (λ (e : ℕ × ℕ). passed d e.0 e.1) (pass_edges_back plan l i o) d)
   after_forward_d i o = ap (λ p. option_map_or (done (network plan a d)) (option_map (leaf_job_d l) p) (network plan a d)) (parts_d i o)
-      ∙ done_job_d (at_ends d (ends_back plan l i o)) (keeps_at d (ends_back plan l i o))
-      ∙ ap (λ d. network plan a d) (gone_at d (ends_back plan l i o))
+      ∙ done_job_d (at_ends d (pass_edges_back plan l i o)) (keeps_at d (pass_edges_back plan l i o))
+      ∙ ap (λ d. network plan a d) (gone_at d (pass_edges_back plan l i o))
 
-  pub after_absorb_a : after (network plan a d) (AbsorbA l) ≡ network plan a d
+  pub after_absorb_a : state_after (network plan a d) (AbsorbA l) ≡ network plan a d
   after_absorb_a = ap (λ p. option_map_or (done (network plan a d)) (option_map (leaf_job_a l) p) (network plan a d)) none_a
 
-  pub after_absorb_d : after (network plan a d) (AbsorbD l) ≡ network plan a d
+  pub after_absorb_d : state_after (network plan a d) (AbsorbD l) ≡ network plan a d
   after_absorb_d = ap (λ p. option_map_or (done (network plan a d)) (option_map (leaf_job_d l) p) (network plan a d)) none_d
 
 -- ---- the moves of ports that take
 
 pub after_leave : (plan : Plan) (a : List (List (ABeat × Tag))) (d : List (List (DBeat × Tag))) (port edge : ℕ) → edge_of_port plan.sinks port ≡ Some edge
-    → after (network plan a d) (Leave port) ≡ network plan (taken (Some edge) a) d
+    → state_after (network plan a d) (Leave port) ≡ network plan (taken (Some edge) a) d
 after_leave plan a d port edge e = ap (λ at. option_map_or (done (network plan a d)) (option_map (λ edge. port_job_a (takes edge)) at) (network plan a d)) e
 
 pub after_return : (plan : Plan) (a : List (List (ABeat × Tag))) (d : List (List (DBeat × Tag))) (port edge : ℕ) → edge_of_port plan.sources port ≡ Some edge
-    → after (network plan a d) (Return port) ≡ network plan a (taken (Some edge) d)
+    → state_after (network plan a d) (Return port) ≡ network plan a (taken (Some edge) d)
 after_return plan a d port edge e = ap (λ at. option_map_or (done (network plan a d)) (option_map (λ edge. port_job_d (takes edge)) at) (network plan a d)) e

@@ -8,15 +8,15 @@ use Rattle.tl_edge.specs.declared.plan.Plan.{Plan}
 use Rattle.flow_core.specs.declared.moves.Move.{Move}
 use Rattle.flow_core.specs.declared.queue.Flow.{Flow}
 use Rattle.flow_core.specs.Tags.{Held}
-use Rattle.flow_core.specs.Queues.{queue, may_flow, has_head, has_room, has_place, taken, joined, flowed}
-use Rattle.flow_core.specs.Network.{State, Job, job, start, may_do, with_leaf, is_enabled, done, after, held_at_start, RunsTo}
+use Rattle.flow_core.specs.Queues.{queue, may_flow, has_head, has_room, has_place, taken, put_last, flowed}
+use Rattle.flow_core.specs.Network.{State, Job, job, network_at_start, may_do, with_leaf, is_enabled, done, state_after, held_at_start, RunsTo}
 use Rattle.flow_core.specs.Shapes.{AreQueues, IsOf, ShapeLaw}
 
 -- the induction over moves, for any invariant
-pub every_move : (P : State → Type 0) → ((state : State) (move : Move) → IsTrue (is_enabled state move) → P state → P (after state move))
+pub every_move : (P : State → Type 0) → ((state : State) (move : Move) → IsTrue (is_enabled state move) → P state → P (state_after state move))
     → (state end : State) (moves : List Move) → P state → RunsTo state moves end → P end
 every_move P step state end [] p r = subst P (sym r) p
-every_move P step state end (move ∷ moves) p r = every_move P step (after state move) end moves (step state move r.0 p) r.1
+every_move P step state end (move ∷ moves) p r = every_move P step (state_after state move) end moves (step state move r.0 p) r.1
 
 both_true : (x y : Bool) → IsTrue (x && y) → IsTrue x × IsTrue y
 both_true true true h = (h, h)
@@ -47,7 +47,7 @@ module _ {B : Type 0} where
   as_many None qs = refl
   as_many (Some f) qs = length-set qs f (drop 1 (queue qs f))
 
-  as_many_joined : (p : Option (ℕ × B)) (qs : List (List B)) → length (joined p qs) ≡ length qs
+  as_many_joined : (p : Option (ℕ × B)) (qs : List (List B)) → length (put_last p qs) ≡ length qs
   as_many_joined None qs = refl
   as_many_joined (Some p) qs = length-set qs p.0 (queue qs p.0 ++ p.1 ∷ [])
 
@@ -55,7 +55,7 @@ module _ {B : Type 0} where
   Room qs None = Unit {0}
   Room qs (Some p) = (p.0 < length qs) × (length (queue qs p.0) < 2)
 
-  two_joined : (p : Option (ℕ × B)) (qs : List (List B)) → Room qs p → ((e : ℕ) → length (queue qs e) ≤ 2) → (e : ℕ) → length (queue (joined p qs) e) ≤ 2
+  two_joined : (p : Option (ℕ × B)) (qs : List (List B)) → Room qs p → ((e : ℕ) → length (queue qs e) ≤ 2) → (e : ℕ) → length (queue (put_last p qs) e) ≤ 2
   unfolding Room
   two_joined None qs r h e = h e
   two_joined (Some p) qs r h e =
@@ -104,7 +104,7 @@ job_keeps plan state (Some j) may h =
       leaves = leaves_keep j.leaf state.leaves ∙ h.leaves;
     }
 
-at_start : (plan : Plan) → IsOf plan (start plan)
+at_start : (plan : Plan) → IsOf plan (network_at_start plan)
 at_start plan = record {
   plan = refl;
   a = none_waiting (length plan.edges);
@@ -114,4 +114,4 @@ at_start plan = record {
 
 pub shape_law : ShapeLaw
 shape_law plan moves end run =
-    every_move (IsOf plan) (λ state move may h. job_keeps plan state (job state move) may h) (start plan) end moves (at_start plan) run
+    every_move (IsOf plan) (λ state move may h. job_keeps plan state (job state move) may h) (network_at_start plan) end moves (at_start plan) run

@@ -1,4 +1,4 @@
--- Worked examples of moves: between one source and one sink stands a buffer, or a fragmenter with pieces of eight bytes.
+-- Worked examples of moves: between one source and one sink stands a buffer, or a fragmenter with pieces of 8 bytes.
 use Rattle.std.specs.Prelude.{ℕ, ◌≡◌, true, false, List, [], ◌∷◌, codes, Some, None}
 use Rattle.tl_params.specs.declared.ops.Policy.TheVariants.{Lowest}
 use Rattle.tl_params.specs.declared.ops.Template.{Template}
@@ -13,13 +13,13 @@ use Rattle.flow_core.specs.Fragmenting.{Hand}
 use Rattle.flow_core.specs.Fragmenting.Phase.{Sending, Waiting, Replying}
 use Rattle.flow_core.specs.Leaves.LeafState.{BufferState, FragmenterState}
 use Rattle.flow_core.specs.Tags.{no_tag}
-use Rattle.flow_core.specs.Network.{State, start, is_enabled, after}
+use Rattle.flow_core.specs.Network.{State, network_at_start, is_enabled, state_after}
 use Rattle.flow_core.specs.ExampleBeats.{get, got}
 use Rattle.flow_core.specs.Examples.{pieces_of_8, in_hand}
 
 -- source, leaf and sink: edge 0 is above the leaf, edge 1 below it
-abbrev pub between : Template → List ℕ → Plan
-between template args = record {
+abbrev pub one_leaf : Template → List ℕ → Plan
+one_leaf template args = record {
   name = codes "one";
   policy = Lowest;
   leaves = leaf template args (0 ∷ []) (1 ∷ []) ∷ [];
@@ -31,7 +31,7 @@ between template args = record {
 -- the queues above and below the buffer, on channel A and on channel D
 abbrev pub buffered : (a_above a_below : List (ABeat × Tag)) (d_above d_below : List (DBeat × Tag)) → State
 buffered a_above a_below d_above d_below = record {
-  plan = between Buffer [];
+  plan = one_leaf Buffer [];
   a = a_above ∷ a_below ∷ [];
   d = d_above ∷ d_below ∷ [];
   leaves = record { leaf = BufferState; tag = no_tag } ∷ [];
@@ -40,16 +40,16 @@ buffered a_above a_below d_above d_below = record {
 -- beats go in at the end and out at the head, whatever they are, and need a head and room; a move that names what isn't
 -- there, or that a buffer hasn't, may not be made
 pub record MovesExample : Type 0 where
-  pub starts : start (between Buffer []) ≡ buffered [] [] [] []
+  pub starts : network_at_start (one_leaf Buffer []) ≡ buffered [] [] [] []
   pub enters : (x : ABeat × Tag) (beat : ABeat) (tag : Tag)
-      → after (buffered (x ∷ []) [] [] []) (Enter 0 beat tag) ≡ buffered (x ∷ (beat, tag) ∷ []) [] [] []
+      → state_after (buffered (x ∷ []) [] [] []) (Enter 0 beat tag) ≡ buffered (x ∷ (beat, tag) ∷ []) [] [] []
   pub may_enter : (x : ABeat × Tag) (beat : ABeat) (tag : Tag)
       → is_enabled (buffered (x ∷ []) [] [] []) (Enter 0 beat tag) ≡ true
   pub full : (x y : ABeat × Tag) (beat : ABeat) (tag : Tag)
       → is_enabled (buffered (x ∷ y ∷ []) [] [] []) (Enter 0 beat tag) ≡ false
   pub no_port : (beat : ABeat) (tag : Tag) → is_enabled (buffered [] [] [] []) (Enter 1 beat tag) ≡ false
   pub forwards : (x y z : ABeat × Tag)
-      → after (buffered (x ∷ y ∷ []) (z ∷ []) [] []) (ForwardA 0 0 0 0) ≡ buffered (y ∷ []) (z ∷ x ∷ []) [] []
+      → state_after (buffered (x ∷ y ∷ []) (z ∷ []) [] []) (ForwardA 0 0 0 0) ≡ buffered (y ∷ []) (z ∷ x ∷ []) [] []
   pub may_forward : (x y z : ABeat × Tag)
       → is_enabled (buffered (x ∷ y ∷ []) (z ∷ []) [] []) (ForwardA 0 0 0 0) ≡ true
   pub no_room : (x y z : ABeat × Tag)
@@ -58,15 +58,15 @@ pub record MovesExample : Type 0 where
   pub no_leaf : (x : ABeat × Tag) → is_enabled (buffered (x ∷ []) [] [] []) (ForwardA 1 0 0 0) ≡ false
   pub no_id : (x : ABeat × Tag) → is_enabled (buffered (x ∷ []) [] [] []) (ForwardA 0 0 0 1) ≡ false
   pub no_absorb : (x : ABeat × Tag) → is_enabled (buffered (x ∷ []) [] [] []) (AbsorbA 0) ≡ false
-  pub leaves : (x y : ABeat × Tag) → after (buffered [] (x ∷ y ∷ []) [] []) (Leave 0) ≡ buffered [] (y ∷ []) [] []
+  pub leaves : (x y : ABeat × Tag) → state_after (buffered [] (x ∷ y ∷ []) [] []) (Leave 0) ≡ buffered [] (y ∷ []) [] []
   pub may_leave : (x y : ABeat × Tag) → is_enabled (buffered [] (x ∷ y ∷ []) [] []) (Leave 0) ≡ true
   pub nothing_leaves : is_enabled (buffered [] [] [] []) (Leave 0) ≡ false
   pub replies : (beat : DBeat) (tag : Tag)
-      → after (buffered [] [] [] []) (Reply 0 beat tag) ≡ buffered [] [] [] ((beat, tag) ∷ [])
+      → state_after (buffered [] [] [] []) (Reply 0 beat tag) ≡ buffered [] [] [] ((beat, tag) ∷ [])
   pub back : (x y : DBeat × Tag)
-      → after (buffered [] [] [] (x ∷ y ∷ [])) (ForwardD 0 0 0) ≡ buffered [] [] (x ∷ []) (y ∷ [])
+      → state_after (buffered [] [] [] (x ∷ y ∷ [])) (ForwardD 0 0 0) ≡ buffered [] [] (x ∷ []) (y ∷ [])
   pub may_go_back : (x : DBeat × Tag) → is_enabled (buffered [] [] [] (x ∷ [])) (ForwardD 0 0 0) ≡ true
-  pub returns : (x : DBeat × Tag) → after (buffered [] [] (x ∷ []) []) (Return 0) ≡ buffered [] [] [] []
+  pub returns : (x : DBeat × Tag) → state_after (buffered [] [] (x ∷ []) []) (Return 0) ≡ buffered [] [] [] []
   pub may_return : (x : DBeat × Tag) → is_enabled (buffered [] [] (x ∷ []) []) (Return 0) ≡ true
 
 -- ---- a get of 16 bytes, request 3 of port 0, that is piece 2 of its request, on its way through the fragmenter
@@ -78,34 +78,34 @@ tag_of_get piece = record { port = 0; index = 3; piece = piece }
 -- the queues above and below the fragmenter, and what it has in hand
 abbrev pub cutting : (a_above a_below : List (ABeat × Tag)) (d_above d_below : List (DBeat × Tag)) → Hand → State
 cutting a_above a_below d_above d_below hand = record {
-  plan = between Fragmenter (8 ∷ 64 ∷ []);
+  plan = one_leaf Fragmenter (8 ∷ 64 ∷ []);
   a = a_above ∷ a_below ∷ [];
   d = d_above ∷ d_below ∷ [];
   leaves = record { leaf = FragmenterState pieces_of_8 (Some hand); tag = tag_of_get 2 } ∷ [];
 }
 
--- the first piece takes the head, and its tag is 2 times 2 pieces; the second needs no head, and its tag is one more; an
--- answer is absorbed, and no forward; and the whole response has the tag of the head
+-- the first piece takes the head, and its tag is 2 times 2 pieces; the second needs no head, and its tag is one more;
+-- an answer is absorbed, and no forward; and the whole response has the tag of the head
 pub record CuttingExample : Type 0 where
-  pub first : after
+  pub first : state_after
       (record {
-        plan = between Fragmenter (8 ∷ 64 ∷ []);
+        plan = one_leaf Fragmenter (8 ∷ 64 ∷ []);
         a = ((get 4 1 0x80000010 0xff, tag_of_get 2) ∷ []) ∷ [] ∷ [];
         d = [] ∷ [] ∷ [];
         leaves = record { leaf = FragmenterState pieces_of_8 None; tag = no_tag } ∷ [];
       })
       (ForwardA 0 0 0 0)
       ≡ cutting [] ((get 3 1 0x80000010 0xff, tag_of_get 4) ∷ []) [] [] (in_hand Waiting 0 0 [])
-  pub second : after (cutting [] [] [] [] (in_hand Sending 1 0 (7 ∷ []))) (ForwardA 0 0 0 0)
+  pub second : state_after (cutting [] [] [] [] (in_hand Sending 1 0 (7 ∷ []))) (ForwardA 0 0 0 0)
       ≡ cutting [] ((get 3 1 0x80000018 0xff, tag_of_get 5) ∷ []) [] [] (in_hand Waiting 1 0 (7 ∷ []))
   pub may_send : is_enabled (cutting [] [] [] [] (in_hand Sending 1 0 (7 ∷ []))) (ForwardA 0 0 0 0) ≡ true
   pub absorbs : (tag : Tag)
-      → after (cutting [] [] [] ((got 3 1 8, tag) ∷ []) (in_hand Waiting 1 0 (7 ∷ []))) (AbsorbD 0)
+      → state_after (cutting [] [] [] ((got 3 1 8, tag) ∷ []) (in_hand Waiting 1 0 (7 ∷ []))) (AbsorbD 0)
       ≡ cutting [] [] [] [] (in_hand Replying 1 0 (7 ∷ 8 ∷ []))
   pub may_absorb : (tag : Tag) (x y : DBeat × Tag)
       → is_enabled (cutting [] [] (x ∷ y ∷ []) ((got 3 1 8, tag) ∷ []) (in_hand Waiting 1 0 (7 ∷ []))) (AbsorbD 0)
       ≡ true
   pub no_forward : (tag : Tag)
       → is_enabled (cutting [] [] [] ((got 3 1 8, tag) ∷ []) (in_hand Waiting 1 0 (7 ∷ []))) (ForwardD 0 0 0) ≡ false
-  pub back : after (cutting [] [] [] [] (in_hand Replying 1 0 (7 ∷ 8 ∷ []))) (ForwardD 0 0 0)
+  pub back : state_after (cutting [] [] [] [] (in_hand Replying 1 0 (7 ∷ 8 ∷ []))) (ForwardD 0 0 0)
       ≡ cutting [] [] ((got 4 1 7, tag_of_get 2) ∷ []) [] (in_hand Replying 1 1 (7 ∷ 8 ∷ []))

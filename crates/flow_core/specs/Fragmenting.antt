@@ -113,8 +113,8 @@ sent knife hand = record {
 }
 
 -- a request comes into hand
-abbrev pub begun : ABeat → Hand
-begun beat = record {
+abbrev pub taken_in_hand : ABeat → Hand
+taken_in_hand beat = record {
   phase = Sending;
   head = head_of beat;
   piece = 0;
@@ -136,7 +136,7 @@ sends_in Replying knife hand beat = None
 
 -- channel A with a head
 abbrev pub fragment_down : Knife → Option Hand → ABeat → Option (Act ABeat (Option Hand))
-fragment_down knife None beat = Some (sends knife (begun beat) beat)
+fragment_down knife None beat = Some (sends knife (taken_in_hand beat) beat)
 fragment_down knife (Some hand) beat = sends_in hand.phase knife hand beat
 
 -- a get is the one request that goes on without a head
@@ -222,8 +222,8 @@ fragment_up knife None beat = None
 fragment_up knife (Some hand) beat = absorbs_in hand.phase knife hand beat
 
 -- the data of the next beat of the whole response: the one collected at its place, and 0 where a piece was denied
-abbrev pub reply_data : Hand → Option ℕ
-reply_data hand = cond hand.denied (Some 0) (slice_get hand.collected hand.done)
+abbrev pub next_data : Hand → Option ℕ
+next_data hand = cond hand.denied (Some 0) (slice_get hand.collected hand.done)
 
 -- a beat of the whole response
 abbrev pub reply_beat : Hand → ℕ → DBeat
@@ -257,7 +257,7 @@ replies knife hand payload =
 abbrev pub replies_in : Phase → Knife → Hand → Option (Act DBeat (Option Hand))
 replies_in Sending knife hand = None
 replies_in Waiting knife hand = None
-replies_in Replying knife hand = option_map (replies knife hand) (reply_data hand)
+replies_in Replying knife hand = option_map (replies knife hand) (next_data hand)
 
 -- channel D without a head: the whole response
 abbrev pub fragment_up_alone : Knife → Option Hand → Option (Act DBeat (Option Hand))

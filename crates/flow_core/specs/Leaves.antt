@@ -116,14 +116,14 @@ abbrev pub piece_bytes : List ℕ → ℕ
 piece_bytes args = option_map_or (λ (fragments : Fragments). fragments.piece) (fragment_arguments args) 0
 
 -- a leaf of a template, with its arguments, between some edges
-abbrev pub at_start : Template → List ℕ → List PlanEdge → List PlanEdge → LeafState
-at_start Buffer args ins outs = BufferState
-at_start Xbar args ins outs = crossbar_at_start ins outs
-at_start Shrinker args ins outs = shrinker_at_start (unwrap_or (shrink_argument args) 0) (first_edge ins)
-at_start Width args ins outs = widget_at_start (first_edge ins) (first_edge outs)
-at_start Fragmenter args ins outs =
+abbrev pub idle_state : Template → List ℕ → List PlanEdge → List PlanEdge → LeafState
+idle_state Buffer args ins outs = BufferState
+idle_state Xbar args ins outs = crossbar_at_start ins outs
+idle_state Shrinker args ins outs = shrinker_at_start (unwrap_or (shrink_argument args) 0) (first_edge ins)
+idle_state Width args ins outs = widget_at_start (first_edge ins) (first_edge outs)
+idle_state Fragmenter args ins outs =
     FragmenterState (record { most = piece_bytes args; width = width_of (first_edge ins) }) None
 
 -- a leaf of a plan
 abbrev pub leaf_at_start : Plan → Leaf → LeafState
-leaf_at_start plan leaf = at_start leaf.template leaf.args (ins_of plan leaf) (outs_of plan leaf)
+leaf_at_start plan leaf = idle_state leaf.template leaf.args (ins_of plan leaf) (outs_of plan leaf)

@@ -13,7 +13,7 @@ use Rattle.flow_core.specs.declared.queue.Flow.{Flow}
 use Rattle.flow_core.specs.Acts.{Act}
 use Rattle.flow_core.specs.Leaves.{leaf_at_start}
 use Rattle.flow_core.specs.Tags.{Held, no_tag, held_down, held_down_alone, held_up, held_up_alone}
-use Rattle.flow_core.specs.Queues.{queue, first, still, takes, puts, may_flow, flowed}
+use Rattle.flow_core.specs.Queues.{queue, head_in, still, takes, puts, may_flow, flowed}
 
 -- the state: of each edge the beats put and not yet taken on both channels, each with its tag, and of each leaf its own
 pub record State : Type 0 where
@@ -27,8 +27,8 @@ abbrev pub held_at_start : Plan → Leaf → Held
 held_at_start plan leaf = record { leaf = leaf_at_start plan leaf; tag = no_tag }
 
 -- all queues start empty, and all leaves idle
-abbrev pub start : Plan → State
-start plan = record {
+abbrev pub network_at_start : Plan → State
+network_at_start plan = record {
   plan = plan;
   a = replicate (length plan.edges) [];
   d = replicate (length plan.edges) [];
@@ -57,21 +57,21 @@ by_itself to act = record {
 }
 
 -- what a leaf does between two edges: without a head where it can, else by the head
-abbrev pub part : {B : Type 0} → List (List B) → ℕ → ℕ → Option (Act B Held) → (B → Option (Act B Held))
+abbrev pub part_between : {B : Type 0} → List (List B) → ℕ → ℕ → Option (Act B Held) → (B → Option (Act B Held))
     → Option (Part B)
-part queues from to alone act =
+part_between queues from to alone act =
     option_or (option_map (by_itself to) alone)
-    (option_map (by_head from to) (option_and_then act (first (queue queues from))))
+    (option_map (by_head from to) (option_and_then act (head_in (queue queues from))))
 
 -- a leaf's part on channel A, between two edges
 abbrev pub part_down : List (List (ABeat × Tag)) → Held → ℕ → ℕ → ℕ → ℕ → ℕ → Option (Part (ABeat × Tag))
 part_down queues held input output id from to =
-    part queues from to (held_down_alone held id input output) (held_down held id input output)
+    part_between queues from to (held_down_alone held id input output) (held_down held id input output)
 
 -- a leaf's part on channel D, between two edges
 abbrev pub part_up : List (List (DBeat × Tag)) → Held → ℕ → ℕ → ℕ → ℕ → Option (Part (DBeat × Tag))
 part_up queues held input output from to =
-    part queues from to (held_up_alone held input output) (held_up held input output)
+    part_between queues from to (held_up_alone held input output) (held_up held input output)
 
 -- where two things are there, what is made of both
 abbrev pub both : {A B C : Type 0} → Option A → Option B → (A → B → Option C) → Option C
@@ -138,11 +138,11 @@ edge_of_port ports port = option_map (λ (at : PlanPort). at.edge) (slice_get po
 
 -- the beat that waits to leave at a sink port
 abbrev pub leaving : State → ℕ → Option (ABeat × Tag)
-leaving state port = option_and_then (λ edge. first (queue state.a edge)) (edge_of_port state.plan.sinks port)
+leaving state port = option_and_then (λ edge. head_in (queue state.a edge)) (edge_of_port state.plan.sinks port)
 
 -- the beat that waits to return at a source port
 abbrev pub returning : State → ℕ → Option (DBeat × Tag)
-returning state port = option_and_then (λ edge. first (queue state.d edge)) (edge_of_port state.plan.sources port)
+returning state port = option_and_then (λ edge. head_in (queue state.d edge)) (edge_of_port state.plan.sources port)
 
 -- what a move does where it names a port, or a leaf with an input and an output, and where the leaf acts; whether there
 -- are head and room isn't asked here
@@ -183,10 +183,10 @@ done state job = record {
 }
 
 -- the state after a move, and the same state where it does nothing
-abbrev pub after : State → Move → State
-after state move = option_map_or (done state) (job state move) state
+abbrev pub state_after : State → Move → State
+state_after state move = option_map_or (done state) (job state move) state
 
 -- from one state to another by a list of moves, each enabled when it is made
 abbrev pub RunsTo : State → List Move → State → Type 0
 RunsTo state [] end = end ≡ state
-RunsTo state (move ∷ moves) end = IsTrue (is_enabled state move) × RunsTo (after state move) moves end
+RunsTo state (move ∷ moves) end = IsTrue (is_enabled state move) × RunsTo (state_after state move) moves end

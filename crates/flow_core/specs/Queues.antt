@@ -11,14 +11,14 @@ abbrev pub queue : {B : Type 0} → List (List B) → ℕ → List B
 queue queues edge = get_or queues edge []
 
 -- the head of a queue
-abbrev pub first : {B : Type 0} → List B → Option B
-first [] = None
-first (beat ∷ beats) = Some beat
+abbrev pub head_in : {B : Type 0} → List B → Option B
+head_in [] = None
+head_in (beat ∷ beats) = Some beat
 
 -- one optional beat, as a queue
-abbrev pub waiting : {B : Type 0} → Option B → List B
-waiting None = []
-waiting (Some beat) = beat ∷ []
+abbrev pub one_waiting : {B : Type 0} → Option B → List B
+one_waiting None = []
+one_waiting (Some beat) = beat ∷ []
 
 -- a queue has room for one more
 abbrev pub has_place : {B : Type 0} → List B → Bool
@@ -39,7 +39,7 @@ puts edge beat = record { from = None; take = false; put = Some (edge, beat) }
 -- there is a head to look at
 abbrev pub has_head : {B : Type 0} → List (List B) → Option ℕ → Bool
 has_head queues None = true
-has_head queues (Some edge) = is_some (first (queue queues edge))
+has_head queues (Some edge) = is_some (head_in (queue queues edge))
 
 -- an edge has room
 abbrev pub has_room_at : {B : Type 0} → List (List B) → ℕ → Bool
@@ -60,10 +60,10 @@ taken None queues = queues
 taken (Some edge) queues = set queues edge (drop 1 (queue queues edge))
 
 -- with a beat more at the end of an edge's queue
-abbrev pub joined : {B : Type 0} → Option (ℕ × B) → List (List B) → List (List B)
-joined None queues = queues
-joined (Some put) queues = set queues put.0 (queue queues put.0 ++ put.1 ∷ [])
+abbrev pub put_last : {B : Type 0} → Option (ℕ × B) → List (List B) → List (List B)
+put_last None queues = queues
+put_last (Some put) queues = set queues put.0 (queue queues put.0 ++ put.1 ∷ [])
 
 -- the queues after the move: first the head is taken, then the beat is put
 abbrev pub flowed : {B : Type 0} → Flow B → List (List B) → List (List B)
-flowed flow queues = joined flow.put (taken (cond flow.take flow.from None) queues)
+flowed flow queues = put_last flow.put (taken (cond flow.take flow.from None) queues)

@@ -4,7 +4,7 @@ use Rattle.std.specs.Prelude.{ℕ, ◌≡◌, ◌≤◌, List, length}
 use Rattle.tl_edge.specs.declared.plan.Plan.{Plan}
 use Rattle.flow_core.specs.declared.moves.Move.{Move}
 use Rattle.flow_core.specs.Queues.{queue, most_waiting}
-use Rattle.flow_core.specs.Network.{State, start, RunsTo}
+use Rattle.flow_core.specs.Network.{State, network_at_start, RunsTo}
 
 -- the queues of a channel: one for each of so many edges, none longer than two
 pub record AreQueues {B : Type 0} (edges : ℕ) (queues : List (List B)) : Type 0 where
@@ -20,4 +20,4 @@ pub record IsOf (its : Plan) (state : State) : Type 0 where
 
 -- so it is after every list of moves from the start, each enabled when it is made, in whatever order
 abbrev pub ShapeLaw : Type 0
-ShapeLaw = (plan : Plan) (moves : List Move) (end : State) → RunsTo (start plan) moves end → IsOf plan end
+ShapeLaw = (plan : Plan) (moves : List Move) (end : State) → RunsTo (network_at_start plan) moves end → IsOf plan end

@@ -33,8 +33,8 @@ pub record Lanes : Type 0 where
 -- ---- narrow beats, counted from 0, of a message at an address, between buses of `narrow` and `wide` bytes
 
 -- the lane of its wide beat on which a narrow beat begins
-abbrev pub place_of : ℕ → ℕ → ℕ → ℕ → ℕ
-place_of narrow wide address number = (address + number * narrow) % wide / narrow * narrow
+abbrev pub lane_of_beat : ℕ → ℕ → ℕ → ℕ → ℕ
+lane_of_beat narrow wide address number = (address + number * narrow) % wide / narrow * narrow
 
 -- a narrow beat, of so many, ends its wide beat: it is the last of its message, or the wide beat's last lanes
 abbrev pub ends_wide : ℕ → ℕ → ℕ → ℕ → ℕ → Bool
@@ -46,8 +46,8 @@ abbrev pub number_after : ℕ → ℕ → ℕ
 number_after beats number = cond (number + 1 == beats) 0 (number + 1)
 
 -- the collected lanes with those of a narrow beat from a place on
-abbrev pub widened : Side → ℕ → Lanes → Lanes
-widened side place lanes = record {
+abbrev pub with_lanes : Side → ℕ → Lanes → Lanes
+with_lanes side place lanes = record {
   mask = bit_or side.mask (lanes.mask * 2 ^ place);
   payload = bit_or side.payload (lanes.payload * 2 ^ (8 * place));
 }
@@ -82,12 +82,12 @@ turned_at from to address beats side lanes =
     (widens
     (ends_wide from to address beats side.done)
     (number_after beats side.done)
-    (widened side (place_of from to address side.done) lanes))
+    (with_lanes side (lane_of_beat from to address side.done) lanes))
     (narrows
     (ends_wide to from address beats side.done)
     (number_after beats side.done)
     side
-    (narrowed to (place_of to from address side.done) lanes))
+    (narrowed to (lane_of_beat to from address side.done) lanes))
 
 -- the same of a message of a size; there is none where all its narrow beats are done
 abbrev pub turned : ℕ → ℕ → ℕ → ℕ → Side → Lanes → Option (Act Lanes Side)

@@ -1,5 +1,5 @@
 ghost use Rattle.std.specs.Prelude.{◌≡◌, IsTrue, IfOk};
-ghost use Rattle.flow_core.specs.Built.{ends, ends_back, IsBuilt};
+ghost use Rattle.flow_core.specs.Built.{pass_edges, pass_edges_back, IsBuilt};
 ghost use Rattle.flow_core.specs.Network as spec;
 ghost use Rattle.flow_core.specs.declared.moves.Move.TheVariants.{AbsorbA, AbsorbD, Enter, ForwardA, ForwardD, Leave, Reply, Return};
 
@@ -61,7 +61,7 @@ fn out_edge(plan: &Plan, leaf: u32, output: u32) -> Option<u32>
 
 // The edges between which a beat passes a buffer towards the sinks.
 fn way_down(plan: &Plan, leaf: u32, input: u32, output: u32, id: u32) -> Option<(u32, u32)>
-    ensures { result ≡ ends plan.now leaf input output id }
+    ensures { result ≡ pass_edges plan.now leaf input output id }
 {
     if id != 0 || input != 0 || output != 0 {
         return None;
@@ -73,7 +73,7 @@ fn way_down(plan: &Plan, leaf: u32, input: u32, output: u32, id: u32) -> Option<
 
 // The edges between which a beat passes a buffer towards the sources.
 fn way_up(plan: &Plan, leaf: u32, input: u32, output: u32) -> Option<(u32, u32)>
-    ensures { result ≡ ends_back plan.now leaf input output }
+    ensures { result ≡ pass_edges_back plan.now leaf input output }
 {
     if input != 0 || output != 0 {
         return None;
@@ -87,7 +87,7 @@ impl<'a> Network<'a> {
     /// The network of a plan of buffers, with all queues empty.
     pub fn open(alloc: Global, plan: &'a Plan) -> Result<Network<'a>, Memory>
         requires { IsBuilt plan.now }
-        ensures { IfOk result (λ network. network ≡ spec.start plan.now) }
+        ensures { IfOk result (λ network. network ≡ spec.network_at_start plan.now) }
     {
         let a = Queues::open(alloc, plan.edges.len())?;
         let d = Queues::open(alloc, plan.edges.len())?;
@@ -218,7 +218,7 @@ impl<'a> Network<'a> {
     #[tactic(auto, using(crate::proofs::Buffers::enabled_forward_a, crate::proofs::Buffers::after_forward_a))]
     fn forward_a(&mut self, leaf: u32, input: u32, output: u32, id: u32)
         requires { IsTrue (spec.is_enabled self.old (ForwardA leaf input output id)) }
-        ensures { self.new ≡ spec.after self.old (ForwardA leaf input output id) }
+        ensures { self.new ≡ spec.state_after self.old (ForwardA leaf input output id) }
     {
         if let Some((from, to)) = way_down(self.plan, leaf, input, output, id) {
             self.a.pass(from, to);
@@ -229,7 +229,7 @@ impl<'a> Network<'a> {
     #[tactic(auto, using(crate::proofs::Buffers::enabled_forward_d, crate::proofs::Buffers::after_forward_d))]
     fn forward_d(&mut self, leaf: u32, input: u32, output: u32)
         requires { IsTrue (spec.is_enabled self.old (ForwardD leaf input output)) }
-        ensures { self.new ≡ spec.after self.old (ForwardD leaf input output) }
+        ensures { self.new ≡ spec.state_after self.old (ForwardD leaf input output) }
     {
         if let Some((from, to)) = way_up(self.plan, leaf, input, output) {
             self.d.pass(from, to);
@@ -239,7 +239,7 @@ impl<'a> Network<'a> {
     // A source port puts a beat onto its edge.
     fn enter(&mut self, port: u32, beat: ABeat, tag: Tag)
         requires { IsTrue (spec.is_enabled self.old (Enter port beat tag)) }
-        ensures { self.new ≡ spec.after self.old (Enter port beat tag) }
+        ensures { self.new ≡ spec.state_after self.old (Enter port beat tag) }
     {
         if let Some(edge) = edge_of(self.plan.sources.as_slice(), port) {
             self.a.put(edge, (beat, tag));
@@ -249,7 +249,7 @@ impl<'a> Network<'a> {
     // A sink port puts a beat onto its edge.
     fn reply(&mut self, port: u32, beat: DBeat, tag: Tag)
         requires { IsTrue (spec.is_enabled self.old (Reply port beat tag)) }
-        ensures { self.new ≡ spec.after self.old (Reply port beat tag) }
+        ensures { self.new ≡ spec.state_after self.old (Reply port beat tag) }
     {
         if let Some(edge) = edge_of(self.plan.sinks.as_slice(), port) {
             self.d.put(edge, (beat, tag));
@@ -260,7 +260,7 @@ impl<'a> Network<'a> {
     #[tactic(auto, using(crate::proofs::Buffers::after_leave))]
     fn leave(&mut self, port: u32)
         requires { IsTrue (spec.is_enabled self.old (Leave port)) }
-        ensures { self.new ≡ spec.after self.old (Leave port) }
+        ensures { self.new ≡ spec.state_after self.old (Leave port) }
     {
         if let Some(edge) = edge_of(self.plan.sinks.as_slice(), port) {
             self.a.take(edge);
@@ -271,7 +271,7 @@ impl<'a> Network<'a> {
     #[tactic(auto, using(crate::proofs::Buffers::after_return))]
     fn give_back(&mut self, port: u32)
         requires { IsTrue (spec.is_enabled self.old (Return port)) }
-        ensures { self.new ≡ spec.after self.old (Return port) }
+        ensures { self.new ≡ spec.state_after self.old (Return port) }
     {
         if let Some(edge) = edge_of(self.plan.sources.as_slice(), port) {
             self.d.take(edge);
@@ -281,8 +281,8 @@ impl<'a> Network<'a> {
     // A leaf takes a beat into its own state, as no buffer does.
     #[tactic(auto, using(crate::proofs::Buffers::after_absorb_a, crate::proofs::Buffers::after_absorb_d))]
     fn absorb(&mut self, leaf: u32)
-        ensures a { self.new ≡ spec.after self.old (AbsorbA leaf) }
-        ensures d { self.new ≡ spec.after self.old (AbsorbD leaf) }
+        ensures a { self.new ≡ spec.state_after self.old (AbsorbA leaf) }
+        ensures d { self.new ≡ spec.state_after self.old (AbsorbD leaf) }
     {
         let _ = &self.plan;
     }
@@ -290,7 +290,7 @@ impl<'a> Network<'a> {
     /// Makes a move that may be made, and takes no memory.
     pub fn apply(&mut self, step: &Move)
         requires { IsTrue (spec.is_enabled self.old step.now) }
-        ensures { self.new ≡ spec.after self.old step.now }
+        ensures { self.new ≡ spec.state_after self.old step.now }
     {
         match *step {
             Move::Enter { port, beat, tag } => self.enter(port, beat, tag),

@@ -26,11 +26,11 @@ pub(crate) struct Queue<T> {
 
 impl<T> Model for Queue<T> {
     ghost use Rattle.std.specs.Prelude.{◌≡◌, List, ◌++◌, None};
-    ghost use Rattle.flow_core.specs.Queues.{waiting};
+    ghost use Rattle.flow_core.specs.Queues.{one_waiting};
 
     ghost Value = { List T };
 
-    ghost view = { λ q. waiting q.head ++ waiting q.last };
+    ghost view = { λ q. one_waiting q.head ++ one_waiting q.last };
 
     ghost invariant = { λ q. q.head ≡ None → q.last ≡ None };
 }
@@ -48,7 +48,7 @@ impl<T: Copy> Queue<T> {
 
     /// The beat that came first.
     pub fn first(&self) -> Option<T>
-        ensures { result ≡ spec.first self.now }
+        ensures { result ≡ spec.head_in self.now }
     {
         self.head
     }
@@ -109,7 +109,7 @@ impl<T: Copy + Drop> Queues<T> {
 
     /// The head of an edge's queue.
     pub fn first(&self, edge: u32) -> Option<T>
-        ensures { result ≡ spec.first (spec.queue self.now edge) }
+        ensures { result ≡ spec.head_in (spec.queue self.now edge) }
     {
         match self.all.get(edge as usize) {
             None => None,
@@ -158,7 +158,7 @@ impl<T: Copy + Drop> Queues<T> {
     /// Puts a beat onto an edge.
     pub fn put(&mut self, edge: u32, beat: T)
         requires { IsTrue (spec.has_room_at self.old edge) }
-        ensures { self.new ≡ spec.joined (Some (edge, beat)) self.old }
+        ensures { self.new ≡ spec.put_last (Some (edge, beat)) self.old }
     {
         let queue = &mut self.all[edge as usize];
         queue.put(beat);

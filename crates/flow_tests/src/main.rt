@@ -1,0 +1,88 @@
+//! Moves of a network between two sources and two sinks, with a buffer on one of the two ways: each line of
+//! the input offers the moves of a cycle, and the program makes those that may be made at its start and
+//! prints what passed the ports.
+#![tactic(auto)]
+
+mod beats;
+mod made;
+
+use dip_lists::Memory;
+use flow_core::{Move, Network};
+use std::alloc::Global;
+use std::fmt::Write;
+use std::io;
+
+// The offered moves that may be made now.
+fn chosen(alloc: Global, network: &Network, line: &str) -> Result<Vec<Move>, Memory> {
+    let mut steps = Vec::new(alloc);
+    for offer in line.split(", ") {
+        let step = beats::step_of(alloc, offer)?;
+        if network.enabled(&step) {
+            steps.push(step)?;
+        }
+    }
+    Ok(steps)
+}
+
+// Writes what a move carries past a port.
+fn show(network: &Network, step: &Move, text: &mut String) -> Result<(), Memory> {
+    match *step {
+        Move::Enter { port, beat, .. } => beats::show_a(text, "enter", port, beat),
+        Move::Reply { port, beat, .. } => beats::show_d(text, "reply", port, beat),
+        Move::Leave { port } => match network.leaving(port) {
+            None => Ok(write!(text, " nothing")?),
+            Some((beat, _)) => beats::show_a(text, "leave", port, beat),
+        },
+        Move::Return { port } => match network.returning(port) {
+            None => Ok(write!(text, " nothing")?),
+            Some((beat, _)) => beats::show_d(text, "return", port, beat),
+        },
+        _ => Ok(()),
+    }
+}
+
+// Makes a move where it may still be made.
+fn make(network: &mut Network, step: &Move, text: &mut String) -> Result<(), Memory> {
+    if !network.enabled(step) {
+        return Ok(write!(text, " refused")?);
+    }
+    show(network, step, text)?;
+    network.apply(step);
+    Ok(())
+}
+
+// Makes the moves of a cycle.
+fn cycle(
+    alloc: Global,
+    network: &mut Network,
+    line: &str,
+    text: &mut String,
+) -> Result<(), Memory> {
+    for step in chosen(alloc, network, line)?.as_slice() {
+        make(network, step, text)?;
+    }
+    Ok(())
+}
+
+// Runs the cycles of the input.
+fn run(rt: &HostRuntime, network: &mut Network) -> io::Result<()> {
+    for line in rt.lines(rt.alloc()) {
+        let line = line?;
+        let mut text = String::new(rt.alloc());
+        if cycle(rt.alloc(), network, line.as_str(), &mut text).is_err() {
+            return println!(rt; "out of memory");
+        }
+        println!(rt; "{line} ->{text}")?;
+    }
+    Ok(())
+}
+
+fn main(rt: HostRuntime) -> io::Result<()> {
+    let Ok(plan) = made::plan(rt.alloc()) else {
+        return println!(rt; "out of memory");
+    };
+    let Ok(mut network) = Network::open(rt.alloc(), &plan) else {
+        return println!(rt; "out of memory");
+    };
+    run(&rt, &mut network)
+}
