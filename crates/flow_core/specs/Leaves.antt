@@ -11,7 +11,7 @@ use Rattle.tl_edge.specs.declared.beat.DBeat.{DBeat}
 use Rattle.tl_edge.specs.declared.plan.Leaf.{Leaf}
 use Rattle.tl_edge.specs.declared.plan.PlanEdge.{PlanEdge}
 use Rattle.tl_edge.specs.declared.plan.Plan.{Plan}
-use Rattle.tl_edge.specs.Plans.{ins_of, outs_of, no_edge, width_of}
+use Rattle.tl_edge.specs.Plans.{ins_of, outs_of, no_edge, bus_width}
 use Rattle.tl_edge.specs.SoundPlans.{ids_of}
 use Rattle.flow_core.specs.Acts.{Act, lifted, forwards}
 use Rattle.flow_core.specs.Crossing.{Crossbar, Gate, Gates, cross_down, cross_up}
@@ -92,14 +92,14 @@ crossbar_at_start ins outs =
     (record {
       ranges = assigned (ids_of ins);
       slaves = map (λ (edge : PlanEdge). edge.slaves) outs;
-      width = width_of (first_edge ins);
+      width = bus_width (first_edge ins);
     })
     (record { outs = replicate (length outs) open_gate; ins = replicate (length ins) open_gate })
 
 -- a shrinker to so many ids
 abbrev pub shrinker_at_start : ℕ → PlanEdge → LeafState
 shrinker_at_start ids above =
-    ShrinkerState (width_of above) (record { olds = replicate ids None; asking = None; answering = 0 })
+    ShrinkerState (bus_width above) (record { olds = replicate ids None; asking = None; answering = 0 })
 
 -- nothing of a message is done or collected
 abbrev pub no_lanes : Side
@@ -108,7 +108,7 @@ no_lanes = record { done = 0; mask = 0; payload = 0 }
 -- a width widget between two edges
 abbrev pub widget_at_start : PlanEdge → PlanEdge → LeafState
 widget_at_start above below =
-    WidthState (record { above = width_of above; below = width_of below })
+    WidthState (record { above = bus_width above; below = bus_width below })
     (record { kept = replicate above.ids None; a = no_lanes; d = no_lanes })
 
 -- the bytes of a fragmenter's pieces
@@ -122,7 +122,7 @@ idle_state Xbar args ins outs = crossbar_at_start ins outs
 idle_state Shrinker args ins outs = shrinker_at_start (unwrap_or (shrink_argument args) 0) (first_edge ins)
 idle_state Width args ins outs = widget_at_start (first_edge ins) (first_edge outs)
 idle_state Fragmenter args ins outs =
-    FragmenterState (record { most = piece_bytes args; width = width_of (first_edge ins) }) None
+    FragmenterState (record { most = piece_bytes args; width = bus_width (first_edge ins) }) None
 
 -- a leaf of a plan
 abbrev pub leaf_at_start : Plan → Leaf → LeafState

@@ -25,7 +25,7 @@ fn value(text: &str, key: &str, other: u32) -> u32 {
 // A name of so many bytes.
 fn long_name(alloc: Global, first: &str, length: u32) -> Result<Name, Memory> {
     let mut text = String::from_str(alloc, first)?;
-    while text.len() < length as usize {
+    for _ in first.len()..length as usize {
         text.push_str("x")?;
     }
     name(alloc, text.as_str())
