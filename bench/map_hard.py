@@ -91,6 +91,16 @@ def joined(between, sources=8, ports=62, sinks=7, outs=57):
     return design(nodes, binds)
 
 
+def rows(buffers=239, ports=4, outs=64):
+    """Rows of buffers in front of a crossbar and a sink: 1,024 edges, all but 64 of which show 64 slaves. It is accepted."""
+    nodes = ['{name = "s", kind = "source", ports = %d, ids = 1, emits = {get = [1, 8]}}' % ports]
+    nodes += ['{name = "b%d", kind = "buffer"}' % k for k in range(buffers)]
+    nodes += ['{name = "x", kind = "xbar"}', sink("r", 0, outs)]
+    row = ["s"] + ["b%d" % k for k in range(buffers)] + ["x"]
+    binds = [bind(row[k + 1], row[k]) for k in range(len(row) - 1)] * ports
+    return design(nodes, binds + [bind("r", "x", ":*=")])
+
+
 def run(name, text):
     with tempfile.NamedTemporaryFile("w", suffix=".toml") as file:
         file.write(text)
@@ -114,6 +124,7 @@ def main():
     run("ladder", ladder(16, 8))
     run("joined", joined(20))
     run("doubling", doubling())
+    run("rows", rows())
 
 
 if __name__ == "__main__":
