@@ -2,7 +2,7 @@
 use Rattle.std.proofs.Common.{◌≡◌, ℕ, zero, suc, ◌+◌, ◌<◌, List, [], ◌∷◌, length, Some, None, refl, sym, ap, ◌∙◌, subst, arith, inl, inr}
 use Rattle.std.specs.Prelude.{slice_get, get_or, unwrap_or, All, AllPairs, Contains}
 use Rattle.std.proofs.lemmas.Option.{slice_get-get_or, slice_get_within}
-use Rattle.std.proofs.lemmas.List.Elements.{All-weaker, Contains-append_left, Contains-append_right}
+use Rattle.std.proofs.lemmas.List.Elements.{All-nil, All-cons, All-weaker, All-contains, Contains-append_left, Contains-append_right}
 use Rattle.tl_params.specs.declared.ports.DownPort.{DownPort}
 use Rattle.tl_params.specs.declared.ports.UpPort.{UpPort}
 use Rattle.tl_edge.specs.declared.plan.PlanEdge.{PlanEdge}
@@ -20,7 +20,7 @@ use Rattle.dip_rule.specs.Stated.{StatedRule}
 use Rattle.dip_negotiate.specs.declared.solution.Solution.{Solution}
 use Rattle.dip_plan.specs.DesignPlans.{ports_on, source_ports, sink_ports, ports_from, plan_edge, plan_edges, plan_of}
 use Rattle.dip_plan.specs.SoundLaw.{HasSizes}
-use Rattle.dip_plan.specs.Standing.{source_count, sink_count, HasPort, IsPortAt, ArePorts, IsEdgeOf, StandsTo}
+use Rattle.dip_plan.specs.Standing.{source_count, sink_count, HasPort, IsPortAt, ArePorts, IsEdgeOf, HasEnds, IsSlaveOf, StandsTo}
 use Rattle.dip_lists.specs.First.{first_failing}
 use Rattle.tl_edge.specs.Legal.{IsLegal, IsLegalOn}
 use Rattle.tl_edge.specs.Plans.{no_edge}
@@ -32,7 +32,14 @@ use Rattle.dip_plan.proofs.Passed.{judged}
 use Rattle.dip_plan.proofs.Judged.{IsJudged}
 use Rattle.dip_stars.specs.Filled.{HasItsEdges}
 use Rattle.dip_plan.proofs.Ports.{PortsOf, IsBefore, port_on, in_order, sources_keep, sinks_keep}
-use Rattle.dip_plan.proofs.Whole.{IsSourcePort, IsSinkPort, all_sources, all_sinks, long}
+use Rattle.tl_params.specs.declared.ports.Slave.{Slave}
+use Rattle.tl_params.specs.declared.ops.Ops.{Ops}
+use Rattle.dip_negotiate.specs.Negotiation.{source_port}
+use Rattle.tl_owners.specs.Outputs.{IsAtSink}
+use Rattle.tl_owners.proofs.Members.{item_has}
+use Rattle.tl_owners.proofs.Outputs.{outputs}
+use Rattle.dip_plan.proofs.Ranks.{nodes_exist}
+use Rattle.dip_plan.proofs.Whole.{IsSourcePort, IsSinkPort, all_sources, all_sinks, long, sound, source_down}
 
 -- ---- each edge
 
@@ -174,6 +181,54 @@ module _ (rules : List StatedRule) (design : Design) (edges : List Edge) (soluti
     all = a_sink;
   }
 
+  -- ---- a source's own port, and what is there
+
+  own : (number : ℕ) (at : PlanPort) (entry : NodeEntry) (ports ids : ℕ) (emits : Ops) → slice_get plan.sources number ≡ Some at → slice_get design.nodes at.node ≡ Some entry
+      → entry.kind ≡ Source ports ids emits → slice_get solution.down at.edge ≡ Some (source_port at.node at.port ids emits)
+  own number at entry ports ids emits is here kind =
+      let s = item_has (IsSourcePort rules design edges solution w j sizes) plan.sources number at (all_sources rules design edges solution w j sizes) is in
+      let same : Some s.entry ≡ Some entry = sym s.is ∙ here in
+      let one : s.entry ≡ entry = cc in
+      let kinds : Source s.ports s.ids s.emits ≡ Source ports ids emits = sym s.kind ∙ ap (λ (n : NodeEntry). n.kind) one ∙ kind in
+      let many : s.ids ≡ ids = cc in
+      let what : s.emits ≡ emits = cc in
+      source_down rules design edges solution w j sizes at s ∙ ap (λ n. Some (source_port at.node at.port n s.emits)) many ∙ ap (λ e. Some (source_port at.node at.port ids e)) what
+
+  there : All (HasEnds design.nodes) edges
+  there = each_edge edges (λ number edge is. nodes_exist design edges j.negotiable number edge is)
+    where
+      each_edge : (es : List Edge) → ((x : ℕ) (edge : Edge) → slice_get es x ≡ Some edge → HasEnds design.nodes edge) → All (HasEnds design.nodes) es
+      each_edge [] f = All-nil (HasEnds design.nodes)
+      each_edge (y ∷ es) f = All-cons (HasEnds design.nodes) y es (f 0 y refl) (each_edge es (λ x edge is. f (suc x) edge is))
+
+  a_slave : (slave : Slave) → IsAtSink plan slave → IsSlaveOf design.nodes slave
+  a_slave slave a =
+      let s = All-contains (IsSinkPort rules design edges solution w j sizes) plan.sinks a.sink (all_sinks rules design edges solution w j sizes) a.listed in
+      subst (λ n. HasPort sink_count design.nodes n slave.port) (sym a.node)
+      (subst (λ n. HasPort sink_count design.nodes a.sink.node n) (sym a.port) (sink a.sink s).has)
+
+  on_edge : (number : ℕ) (down : DownPort) (up : UpPort) → slice_get solution.down number ≡ Some down → slice_get solution.up number ≡ Some up → All (IsSlaveOf design.nodes) up.slaves
+  on_edge number down up d u =
+      let l : number < length plan.edges = omega (arith, long rules design edges solution w j sizes, j.down.long, slice_get_within solution.down number down d) in
+      let here : slice_get plan.edges number ≡ Some (get_or plan.edges number no_edge) = slice_get-get_or plan.edges number no_edge l in
+      let edge : PlanEdge = get_or plan.edges number no_edge in
+      let same : edge_at plan number ≡ edge = ap (λ o. unwrap_or o no_edge) here in
+      let of : IsEdgeOf edge down up = edge_of number solution.down solution.up edge down up here d u in
+      let all : All (IsAtSink plan) edge.slaves = subst (λ (e : PlanEdge). All (IsAtSink plan) e.slaves) same (outputs.sinks plan (sound rules design edges solution w j sizes) number l) in
+      subst (λ ss. All (IsSlaveOf design.nodes) ss) of.slaves (All-weaker (IsAtSink plan) (IsSlaveOf design.nodes) a_slave edge.slaves all)
+
+  slaves : All (λ (up : UpPort). All (IsSlaveOf design.nodes) up.slaves) solution.up
+  slaves = each_up solution.up 0 (λ k up is. at k up is)
+    where
+      at : (k : ℕ) (up : UpPort) → slice_get solution.up k ≡ Some up → All (IsSlaveOf design.nodes) up.slaves
+      at k up is =
+          let l : k < length solution.down = omega (arith, j.down.long, j.up.long, slice_get_within solution.up k up is) in
+          on_edge k (get_or solution.down k (record { masters = [] })) up (slice_get-get_or solution.down k (record { masters = [] }) l) is
+
+      each_up : (us : List UpPort) (first : ℕ) → ((k : ℕ) (up : UpPort) → slice_get us k ≡ Some up → All (IsSlaveOf design.nodes) up.slaves) → All (λ (up : UpPort). All (IsSlaveOf design.nodes) up.slaves) us
+      each_up [] first f = All-nil (λ (up : UpPort). All (IsSlaveOf design.nodes) up.slaves)
+      each_up (u ∷ us) first f = All-cons (λ (up : UpPort). All (IsSlaveOf design.nodes) up.slaves) u us (f 0 u refl) (each_up us (first + 1) (λ k up is. f (suc k) up is))
+
   pub stands : StandsTo design edges solution plan
   stands = record {
     name = refl;
@@ -182,6 +237,9 @@ module _ (rules : List StatedRule) (design : Design) (edges : List Edge) (soluti
     ups = j.up.long;
     long = long rules design edges solution w j sizes;
     edge = λ number edge down up. edge_of number solution.down solution.up edge down up;
+    own = own;
+    ends = there;
+    slaves = slaves;
     sources = sources;
     sinks = sinks;
   }

@@ -42,8 +42,8 @@ use Rattle.dip_negotiate.specs.declared.solution.Solution.{Solution}
 use Rattle.dip_negotiate.specs.Passes.{picked}
 use Rattle.dip_negotiate.specs.Places.{asked, source_end, sink_end}
 use Rattle.dip_graph.specs.Edges.{HasNodes}
-use Rattle.dip_negotiate.specs.Negotiation.{addresses_at, sink_port}
-use Rattle.dip_negotiate.specs.Negotiation.{up_at as stated_up}
+use Rattle.dip_negotiate.specs.Negotiation.{addresses_at, sink_port, source_port}
+use Rattle.dip_negotiate.specs.Negotiation.{up_at as stated_up, down_at as stated_down}
 use Rattle.tl_owners.proofs.Members.{In}
 use Rattle.dip_graph.specs.Edges.{edges_to, edges_from}
 use Rattle.dip_checks.specs.Checks.{has_wrong_ids, share_ids, masters_are_wrong, slave_is_misaligned, edge_is_misaligned, edges_in, solution_of, design_checks, agreed_of}
@@ -390,6 +390,17 @@ module _ (rules : List StatedRule) (design : Design) (edges : List Edge) (soluti
       ap (λ o. unwrap_or o (record { slaves = []; beat = 0 })) h.here ∙ sym p ∙ ap (λ m. sink_port m s.edge.to_port s.beat s.ports s.supports) s.to
       ∙ ap (λ m. sink_port port.node m s.beat s.ports s.supports) s.to_port
 
+  -- what goes down the edge of a source's port is its own
+  pub source_down : (port : PlanPort) (s : IsSourcePort port) → slice_get solution.down port.edge ≡ Some (source_port port.node port.port s.ids s.emits)
+  source_down port s =
+      let h = j.down.holds port.edge s.edge s.at in
+      let known : kind_at design.nodes s.edge.from ≡ Some (Source s.ports s.ids s.emits) =
+      ap (kind_at design.nodes) s.from ∙ ap (option_map (λ (node : NodeEntry). node.kind)) s.is ∙ ap (λ k. Some k) s.kind in
+      let ins : List DownPort = picked solution.down (asked rules design.nodes edges source_end sink_end s.edge) in
+      let e : Ok (source_port s.edge.from s.edge.from_port s.ids s.emits) ≡ Ok h.port = ap (λ k. stated_down rules s.edge.from s.edge.from_port k ins) (sym known) ∙ h.is in
+      let p : source_port s.edge.from s.edge.from_port s.ids s.emits ≡ h.port = same_ok _ _ e in
+      h.here ∙ ap (λ m. Some m) (sym p ∙ ap (λ m. source_port m s.edge.from_port s.ids s.emits) s.from ∙ ap (λ m. source_port port.node m s.ids s.emits) s.from_port)
+
   sink_edge : (port : PlanPort) (s : IsSinkPort port) → edge_at plan port.edge ≡ plan_edge (port_down solution.down port.edge) (sink_port port.node port.port s.beat s.ports s.supports)
   sink_edge port s = edge_is port.edge (slice_get_within edges port.edge s.edge s.at) ∙ ap (λ up. plan_edge (port_down solution.down port.edge) up) (sink_up port s)
 
@@ -502,7 +513,7 @@ module _ (rules : List StatedRule) (design : Design) (edges : List Edge) (soluti
       let l = s.low in
       record { name = short_name port (named_sink port s); port = omega arith }
 
-  sound : IsSound plan
+  pub sound : IsSound plan
   sound = record {
     few_edges = let e = long in let f = j.few in omega arith;
     given = given;

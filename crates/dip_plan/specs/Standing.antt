@@ -3,6 +3,8 @@ use Rattle.std.specs.Prelude.{ℕ, ◌≡◌, ◌<◌, List, length, Some, slice
 use Rattle.tl_params.specs.Owners.{largest_end}
 use Rattle.tl_params.specs.declared.ports.DownPort.{DownPort}
 use Rattle.tl_params.specs.declared.ports.UpPort.{UpPort}
+use Rattle.tl_params.specs.declared.ports.Slave.{Slave}
+use Rattle.tl_params.specs.declared.ops.Ops.{Ops}
 use Rattle.tl_edge.specs.declared.plan.PlanEdge.{PlanEdge}
 use Rattle.tl_edge.specs.declared.plan.PlanPort.{PlanPort}
 use Rattle.tl_edge.specs.declared.plan.Plan.{Plan}
@@ -13,6 +15,7 @@ use Rattle.dip_graph.specs.declared.design.NodeEntry.{NodeEntry}
 use Rattle.dip_graph.specs.declared.design.Design.{Design}
 use Rattle.dip_graph.specs.declared.edges.Edge.{Edge}
 use Rattle.dip_negotiate.specs.declared.solution.Solution.{Solution}
+use Rattle.dip_negotiate.specs.Negotiation.{source_port}
 
 -- how many ports a source has, none of another node
 abbrev pub source_count : NodeKind → ℕ
@@ -56,7 +59,16 @@ pub record IsEdgeOf (edge : PlanEdge) (down : DownPort) (up : UpPort) : Type 0 w
   pub ids : edge.ids ≡ largest_end down.masters
   pub bundle : edge.bundle ≡ bundle up.slaves (largest_end down.masters) up.beat
 
--- A plan has an edge for each edge of the design, and the ports of its sources and sinks.
+-- both nodes of an edge exist
+abbrev pub HasEnds : List NodeEntry → Edge → Type 0
+HasEnds nodes edge = (edge.to < length nodes) × (edge.from < length nodes)
+
+-- a slave is the port of a sink
+abbrev pub IsSlaveOf : List NodeEntry → Slave → Type 0
+IsSlaveOf nodes slave = HasPort sink_count nodes slave.node slave.port
+
+-- A plan has an edge for each edge of the design, and the ports of its sources and sinks. What goes down the edge of a
+-- source's port is that port's own; the nodes of edges are there, and each slave is a sink's port.
 pub record StandsTo (design : Design) (edges : List Edge) (solution : Solution) (plan : Plan) : Type 0 where
   pub name : plan.name ≡ design.name
   pub policy : plan.policy ≡ design.policy
@@ -66,6 +78,12 @@ pub record StandsTo (design : Design) (edges : List Edge) (solution : Solution) 
   pub edge : (number : ℕ) (edge : PlanEdge) (down : DownPort) (up : UpPort)
       → slice_get plan.edges number ≡ Some edge → slice_get solution.down number ≡ Some down
       → slice_get solution.up number ≡ Some up → IsEdgeOf edge down up
+  pub own : (number : ℕ) (at : PlanPort) (entry : NodeEntry) (ports ids : ℕ) (emits : Ops)
+      → slice_get plan.sources number ≡ Some at → slice_get design.nodes at.node ≡ Some entry
+      → entry.kind ≡ Source ports ids emits
+      → slice_get solution.down at.edge ≡ Some (source_port at.node at.port ids emits)
+  pub ends : All (HasEnds design.nodes) edges
+  pub slaves : All (λ (up : UpPort). All (IsSlaveOf design.nodes) up.slaves) solution.up
   pub sources :
       ArePorts source_count (λ edge. edge.from) (λ edge. edge.from_port) design.nodes edges plan.sources
   pub sinks : ArePorts sink_count (λ edge. edge.to) (λ edge. edge.to_port) design.nodes edges plan.sinks
