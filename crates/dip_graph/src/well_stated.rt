@@ -163,8 +163,9 @@ pub fn binds_have_nodes(nodes: &[NodeEntry], binds: &[BindEntry]) -> bool
     binds.iter().all(|bind| has_nodes(nodes, bind))
 }
 
-/// Whether a design is one that a file could state: its counts, numbers and names are within the limits, its
-/// modules are a tree, its nodes' names differ, and what is named by a number is there. Takes no memory.
+/// Whether a design keeps what every design of a file keeps: its counts, numbers and names are within the
+/// limits, its modules are a tree, its nodes' names differ, and what is named by a number is there. Takes no
+/// memory.
 pub fn is_well_stated(design: &Design) -> bool
     ensures { IsTrue result ↔ spec.IsWellStated design.now }
 {

@@ -57,7 +57,7 @@ up_at rules node port (Some (Ruled kind args)) outs = up_by (rule_of rules kind)
 up_at rules node port (Some (Source ports ids emits)) outs = Err 0
 up_at rules node port None outs = Err 0
 
--- ---- the two passes
+-- ---- what the two directions ask and state
 
 -- what the source node of an edge states of it, from what enters that node
 abbrev pub says_down : List StatedRule → List NodeEntry → Edge → List DownPort → Result DownPort ℕ

@@ -21,7 +21,7 @@ use tl_params::{DownPort, DownPorts, UpPort, UpPorts};
 /// Negotiation on demand: the ports of a design's edges, each made when it is first asked for, with those
 /// on which it depends, and kept.
 ///
-/// A place at which a rule is asked is asked once, and what it gives is kept once for all its edges.
+/// What a place gives is kept once for all its edges, and a place whose port is kept isn't asked again.
 #[derive(Drop)]
 pub struct Lazy<'a> {
     design: &'a Design,

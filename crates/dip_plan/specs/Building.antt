@@ -1,5 +1,5 @@
--- The parts of a plan as they are built in one pass: from the edges of each node, by the numbers of nodes. Only
--- functions that aren't public cite what stands here.
+-- The parts of a plan as they are built in a few passes, none of which looks for a node's edges: from the edges of each
+-- node, by the numbers of nodes. Only functions that aren't public cite what stands here.
 use Rattle.std.specs.Prelude.{ℕ, ◌+◌, List, [], ◌∷◌, ◌++◌, zero, suc}
 use Rattle.tl_edge.specs.declared.plan.Leaf.{Leaf}
 use Rattle.tl_edge.specs.declared.plan.PlanPort.{PlanPort}

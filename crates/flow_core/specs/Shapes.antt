@@ -11,7 +11,7 @@ pub record AreQueues {B : Type 0} (edges : ℕ) (queues : List (List B)) : Type 
   pub each : length queues ≡ edges
   pub few : (edge : ℕ) → length (queue queues edge) ≤ most_waiting
 
--- a state of a network of the plan
+-- a state with this plan, and with as many queues and leaves as it has edges and leaves
 pub record IsOf (its : Plan) (state : State) : Type 0 where
   pub plan : state.plan ≡ its
   pub a : AreQueues (length its.edges) state.a

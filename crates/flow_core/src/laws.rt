@@ -27,8 +27,8 @@ pub fn moves_law()
     ensures fragmenter { CuttingExample }
 {}
 
-/// Whatever moves are made, in whatever order, each queue holds at most two beats, and the network stays one
-/// of its plan.
+/// Whatever moves are made, in whatever order, each queue holds at most two beats, there are as many queues
+/// and leaves as at the start, and the plan is the same.
 pub fn shape_law()
     ensures { ShapeLaw }
 {}
