@@ -156,3 +156,13 @@ pub fn netlist(alloc: Global, cells: u64) -> Result<Netlist, Memory> {
         outputs,
     })
 }
+
+/// The same with one cell more, the only one that depends on itself.
+pub fn looped(alloc: Global, cells: u64) -> Result<Netlist, Memory> {
+    let mut netlist = netlist(alloc, cells)?;
+    let own = netlist.inputs.len() as u64;
+    let own = own.wrapping_add(netlist.regs.len() as u64);
+    let own = own.wrapping_add(netlist.cells.len() as u64);
+    netlist.cells.push(cell(32, CellOp::Not(own)))?;
+    Ok(netlist)
+}

@@ -8,13 +8,15 @@ use std::env;
 use std::process::ExitCode;
 
 const USAGE: &str =
-    "usage: bench_netlists WORK CELLS TIMES .., where WORK is engine, print or read";
+    "usage: bench_netlists WORK CELLS TIMES .., where WORK is engine, loop, print or read";
 
 /// What can be done with a made netlist.
 #[derive(Debug, Clone, Copy)]
 enum Work {
     /// So many cycles of it.
     Engine,
+    /// Opening it with a loop of one cell, so many times.
+    Loop,
     /// Its text, so many times.
     Print,
     /// Reading its text, so many times.
@@ -35,6 +37,7 @@ struct Piece {
 fn work_named(name: &str) -> Option<Work> {
     match name {
         "engine" => Some(Work::Engine),
+        "loop" => Some(Work::Loop),
         "print" => Some(Work::Print),
         "read" => Some(Work::Read),
         _ => None,
@@ -63,6 +66,10 @@ fn counted(rt: &HostRuntime, piece: Piece) -> Option<()> {
         Work::Engine => {
             let state = run::engine(rt.alloc(), cells, times).ok()??;
             println!(rt; "cells {cells} cycles {times} state {state:x}").ok()
+        }
+        Work::Loop => {
+            let net = run::looped(rt.alloc(), cells, times).ok()??;
+            println!(rt; "cells {cells} opened {times} times, a loop at net {net}").ok()
         }
         Work::Print => {
             let bytes = run::printed(rt.alloc(), cells, times).ok()??;

@@ -31,6 +31,24 @@ pub fn engine(alloc: Global, cells: u64, count: u64) -> Result<Option<u64>, Engi
     Ok(Some(engine.state()))
 }
 
+/// Opens a made netlist of so many cells and one that depends on itself, so many times: the net on the loop
+/// that is named; `None` where the netlist isn't well formed or no loop is met.
+pub fn looped(alloc: Global, cells: u64, times: u64) -> Result<Option<u64>, Memory> {
+    let mut named = None;
+    for _ in 0..times {
+        let netlist = made::looped(alloc, cells)?;
+        if !well_formed(alloc, &netlist)? {
+            return Ok(None);
+        }
+        named = match Engine::open(alloc, netlist) {
+            Ok(_) => None,
+            Err(EngineFault::Loop { net }) => Some(net),
+            Err(EngineFault::Memory) => return Err(Memory),
+        };
+    }
+    Ok(named)
+}
+
 /// Prints the text of a made netlist of so many cells, so many times: the bytes of all texts; `None` where
 /// the netlist isn't well formed.
 pub fn printed(alloc: Global, cells: u64, times: u64) -> Result<Option<u64>, Memory> {

@@ -115,13 +115,13 @@ pub fn add(alloc: Global, netlist: &mut Netlist, line: &str) -> Result<(), Memor
     }
 }
 
-/// A chain of so many cells of one bit, each the inverse of the next one and the last one that of `reset`,
-/// and an output that shows the first.
-pub fn chain(alloc: Global, cells: u64) -> Result<Netlist, Memory> {
+/// A chain of so many cells of one bit, each the inverse of the next one and the last one that of a net,
+/// and an output that shows the first. Net 0 is `reset`, and the cells' nets are the next ones.
+pub fn chain(alloc: Global, cells: u64, last: u64) -> Result<Netlist, Memory> {
     let mut netlist = empty(alloc, "m_t")?;
     add_port(alloc, &mut netlist, "reset", 1)?;
     for place in 2..cells.saturating_add(2) {
-        let net = if place > cells { 0 } else { place };
+        let net = if place > cells { last } else { place };
         let op = CellOp::Not(net);
         netlist.cells.push(Cell { width: 1, op })?;
     }

@@ -68,6 +68,12 @@ fn show_width(rt: &HostRuntime, made: Result<Netlist, Memory>, net: u64) -> io::
     }
 }
 
+// Runs a chain of so many cells, of which the last reads this net.
+fn show_chain(rt: &HostRuntime, words: &str) -> io::Result<()> {
+    let (cells, last) = cut(words);
+    show_run(rt, chain(rt.alloc(), number(cells), number(last)), "1 0")
+}
+
 impl Script {
     /// Nothing was read.
     pub fn new(alloc: Global) -> Script {
@@ -110,7 +116,7 @@ impl Script {
             "width" => show_width(rt, self.netlist(alloc), number(rest)),
             "run" => show_run(rt, self.netlist(alloc), rest),
             "op" => show_single(rt, rest),
-            "chain" => show_run(rt, chain(alloc, number(rest)), "1 0"),
+            "chain" => show_chain(rt, rest),
             "counter" => show_run(rt, built::counter(alloc), rest),
             "shown" => show_run(rt, built::shown(alloc), rest),
             "late" => show_run(rt, built::late(alloc), rest),

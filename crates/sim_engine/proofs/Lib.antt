@@ -2,6 +2,7 @@ pub mod Walking
 pub mod Widths
 pub mod Acyclic
 pub mod Reaching
+pub mod Ranked
 pub mod Least
 pub mod Rows
 pub mod Placed

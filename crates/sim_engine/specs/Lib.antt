@@ -4,4 +4,5 @@ pub mod Orders
 pub mod Walks
 pub mod Running
 pub mod Reached
+pub mod Ranks
 pub mod Engines

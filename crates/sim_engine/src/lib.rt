@@ -9,6 +9,7 @@ mod laws;
 mod loops;
 mod order;
 mod positions;
+mod ranks;
 mod runs;
 mod steps;
 mod values;

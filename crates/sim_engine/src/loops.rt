@@ -2,10 +2,13 @@ ghost use Rattle.std.specs.Prelude.{◌≡◌, ◌↔◌, ◌+◌, ◌-◌, ◌<
 ghost use Rattle.net_cells.specs.Rules.{IsWellFormed, sources};
 ghost use Rattle.net_cells.specs.Loops.{DependsOn, HasNoLoop};
 ghost use Rattle.sim_engine.specs.Orders.{IsKnown, IsReady};
+ghost use Rattle.sim_engine.specs.Ranks.{AreRanked};
 ghost use Rattle.sim_engine.specs.Reached.{Extends, Finds, MayFind, HasReached};
 ghost use Rattle.sim_engine.specs.Running.{IsLeastLoop};
 
+use crate::arrange::at;
 use crate::order::{first_cell, op_at};
+use crate::ranks::{ranks_of, reads_below};
 use crate::steps::three;
 use dip_lists::Memory;
 use net_cells::Netlist;
@@ -122,15 +125,31 @@ fn depends_on_itself(alloc: Global, netlist: &Netlist, start: u64) -> Result<boo
     Ok(reach.seen[start as usize])
 }
 
-/// The least net that depends on itself through cells; `None` where there is none. Takes time that grows
-/// with the square of the number of cells.
+// Whether the net of the cell at a place depends on itself through cells. Where the cell reads only such of
+// lower ranks, this is seen from them.
+#[tactic(auto, using(crate::proofs::Ranked::on_no_loop))]
+fn is_on_loop(alloc: Global, netlist: &Netlist, ranks: &[u64], place: u64) -> Result<bool, Memory>
+    requires well { IsWellFormed netlist.now }
+    requires ranked { AreRanked netlist.now ranks.now }
+    requires exists { place < length netlist.now.cells }
+    ensures { IfOk result (λ found. IsTrue found
+        ↔ DependsOn netlist.now (sources netlist.now + place) (sources netlist.now + place)) }
+{
+    if reads_below(netlist, ranks, place, at(ranks, place)) {
+        return Ok(false);
+    }
+    depends_on_itself(alloc, netlist, place)
+}
+
+/// The least net that depends on itself through cells; `None` where there is none.
 pub fn least_loop(alloc: Global, netlist: &Netlist) -> Result<Option<u64>, Memory>
     requires { IsWellFormed netlist.now }
     ensures { IfOk result (λ found. MatchOption found (HasNoLoop netlist.now) (IsLeastLoop netlist.now)) }
 {
     let first = first_cell(netlist);
+    let ranks = ranks_of(alloc, netlist)?;
     for place in 0..netlist.cells.len() as u64 {
-        if depends_on_itself(alloc, netlist, place)? {
+        if is_on_loop(alloc, netlist, &ranks, place)? {
             return Ok(Some(first + place));
         }
     }

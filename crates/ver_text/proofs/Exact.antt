@@ -1,20 +1,22 @@
 -- The tests of parts say what they are to.
-use Rattle.std.proofs.Common.{ℕ, ◌≡◌, ◌+◌, ◌-◌, ◌*◌, ◌^◌, ◌<◌, ◌≤◌, List, [], ◌∷◌, length, drop, Bool, true, false, ◌&&◌, cond, Option, Some, None, refl, ap, subst, ◌∙◌, arith}
+use Rattle.std.proofs.Common.{ℕ, ◌≡◌, ◌+◌, ◌-◌, ◌*◌, ◌^◌, ◌<◌, ◌≤◌, List, [], ◌∷◌, length, drop, Bool, true, false, ◌&&◌, cond, Option, Some, None, refl, ap, sym, subst, ◌∙◌, arith, ◌/◌, ◌%◌}
 use Rattle.std.specs.Prelude.{decimal, codes, nat_lt, nat_le, ◌==◌, slice_index}
 use Rattle.std.specs.List.{prefix_len}
 use Rattle.std.specs.Str.{bytes_eq}
 use Rattle.std.proofs.lemmas.Slice.Eq.{bytes_eq-Decides}
 use Rattle.std.proofs.lemmas.Bool.Decides.{nat_tests}
+use Rattle.std.proofs.lemmas.Nat.{mod_below, pow_pos}
 use Rattle.dip_lists.proofs.Tests.{both}
 use Rattle.net_cells.specs.declared.netlist.CellOp.{CellOp}
 use Rattle.net_cells.specs.declared.netlist.CellOp.TheVariants.{Const, Not, And, Or, Xor, Add, Sub, Eq, Less, Mux, Concat, Select}
 use Rattle.net_cells.specs.Rules.{IsCell, IsWidth, HasWidth, HaveWidth, HaveOneWidth}
 use Rattle.ver_text.specs.Lexemes.{is_digit}
-use Rattle.ver_text.specs.Numerals.{digit_value, numeral, written, written_number, number_below, if_below, literal, literal_of}
+use Rattle.ver_text.specs.Numerals.{digit_value, numeral, written, written_number, number_below, if_below, hex_digits, literal, literal_of}
 use Rattle.ver_text.specs.Due.{width_of, width_by}
 use Rattle.ver_text.specs.Fits.{is_cell, is_net, has_width, have_width, have_one_width}
-use Rattle.ver_text.specs.TestLaw.{IsNumberIn, IsRangeIn, TestsAreExact}
+use Rattle.ver_text.specs.TestLaw.{IsLiteralIn, IsNumberIn, IsRangeIn, TestsAreExact}
 use Rattle.ver_text.proofs.Readback.{number_read, width_read}
+use Rattle.ver_text.proofs.Literals.{digits_read, digits_value, literal_rest}
 
 pub join_true : (a b : Bool) → a ≡ true → b ≡ true → (a && b) ≡ true
 join_true true b h k = k
@@ -97,6 +99,23 @@ range_in high low width h = ap (λ x. width_of x low) h.1 ∙ (ap (λ x. width_o
 pub literal_is : (width value : ℕ) (text : List ℕ) → literal_of width text ≡ Some value → text ≡ literal width value
 unfolding literal_of
 literal_is width value text e = (written_so (literal width) text (numeral 16 0 (drop (prefix_len is_digit text + 2) text)) value e).0
+
+literal_value : (width value : ℕ) (text : List ℕ) → literal_of width text ≡ Some value → numeral 16 0 (drop (prefix_len is_digit text + 2) text) ≡ Some value
+unfolding literal_of
+literal_value width value text e = (written_so (literal width) text (numeral 16 0 (drop (prefix_len is_digit text + 2) text)) value e).1
+
+small_value : (value m : ℕ) → 0 < m → Some (value % m) ≡ Some value → value < m
+small_value value m h e = let f : value % m ≡ value = cc in omega (arith, mod_below value m h)
+
+literal_small : (width value : ℕ) (text : List ℕ) → width ≤ 64 → literal_of width text ≡ Some value → value < 2 ^ (4 * ((width + 3) / 4))
+literal_small width value text l e =
+    let t = literal_is width value text e in
+    let n : numeral 16 0 (hex_digits ((width + 3) / 4) value) ≡ Some value =
+    ap (numeral 16 0) (sym (literal_rest width value l)) ∙ (ap (λ x. numeral 16 0 (drop (prefix_len is_digit x + 2) x)) (sym t) ∙ literal_value width value text e) in
+    small_value value (2 ^ (4 * ((width + 3) / 4))) (pow_pos (4 * ((width + 3) / 4))) (sym (digits_value width value l) ∙ n)
+
+literal_in : (width value : ℕ) (text : List ℕ) → width ≤ 64 → IsLiteralIn width text value → literal_of width text ≡ Some value
+literal_in width value text l h = ap (literal_of width) h.1 ∙ digits_read width value h.0 l
 
 -- ---- cells
 
@@ -185,6 +204,6 @@ pub exact : TestsAreExact
 exact = record {
   numbers = λ text n. (number_is text n, number_in text n);
   ranges = λ high low width. (range_is high low width, range_in high low width);
-  literals = literal_is;
+  literals = λ width value text w. (λ e. (literal_small width value text w.1 e, literal_is width value text e), literal_in width value text w.1);
   cells = λ ws width o. (cell_is ws width o, cell_in ws width o);
 }

@@ -20,6 +20,7 @@ pub mod Printed
 pub mod PrintedTexts
 pub mod Readback
 pub mod Refusals
+pub mod Refused
 pub mod Scans
 pub mod Segments
 pub mod Signs

@@ -84,20 +84,28 @@ behind_width ds hex e =
     let place : length (ds ++ codes "'h") ≡ prefix_len is_digit (ds ++ codes "'h" ++ hex) + 2 = omega (arith, length-append ds (codes "'h"), front) in
     drop_at (ds ++ codes "'h") hex (prefix_len is_digit (ds ++ codes "'h" ++ hex) + 2) place
 
-fits : (width value : ℕ) → value < 2 ^ width → value % 2 ^ (4 * ((width + 3) / 4)) ≡ value
-fits width value h =
-    let w : width ≤ 4 * ((width + 3) / 4) = omega arith in
-    let m : 2 ^ width ≤ 2 ^ (4 * ((width + 3) / 4)) = pow_mono w in
-    mod-eq_of_lt (omega arith)
+digits_few : (width : ℕ) → width ≤ 64 → 2 ^ (4 * ((width + 3) / 4)) ≤ 2 ^ 64
+digits_few width l = let m : 4 * ((width + 3) / 4) ≤ 64 = omega arith in pow_mono m
+
+pub digits_value : (width value : ℕ) → width ≤ 64 → numeral 16 0 (hex_digits ((width + 3) / 4) value) ≡ Some (value % 2 ^ (4 * ((width + 3) / 4)))
+digits_value width value l =
+    let b : value % 2 ^ (4 * ((width + 3) / 4)) < 2 ^ (4 * ((width + 3) / 4)) = mod_below value (2 ^ (4 * ((width + 3) / 4))) (pow_pos (4 * ((width + 3) / 4))) in
+    let m = digits_few width l in
+    let total : 0 * 2 ^ (4 * ((width + 3) / 4)) + value % 2 ^ (4 * ((width + 3) / 4)) ≡ value % 2 ^ (4 * ((width + 3) / 4)) = omega arith in
+    hex_read ((width + 3) / 4) 0 value (omega arith) ∙ ap (λ x. Some x) total
+
+pub literal_rest : (width value : ℕ) → width ≤ 64 → drop (prefix_len is_digit (literal width value) + 2) (literal width value) ≡ hex_digits ((width + 3) / 4) value
+unfolding literal
+literal_rest width value l = behind_width (decimal width) (hex_digits ((width + 3) / 4) value) (decimal_digits width (omega arith))
+
+pub digits_read : (width value : ℕ) → value < 2 ^ (4 * ((width + 3) / 4)) → width ≤ 64 → literal_of width (literal width value) ≡ Some value
+unfolding literal_of
+digits_read width value h l =
+    let read : numeral 16 0 (hex_digits ((width + 3) / 4) value) ≡ Some value = digits_value width value l ∙ ap (λ x. Some x) (mod-eq_of_lt h) in
+    rw (literal_rest width value l) (rw read (rw (bytes_same (literal width value)) refl))
 
 pub literal_read : (width value : ℕ) → value < 2 ^ width → width ≤ 64 → literal_of width (literal width value) ≡ Some value
-unfolding literal literal_of
 literal_read width value h l =
-    let digits : List ℕ = hex_digits ((width + 3) / 4) value in
-    let small : 2 ^ width ≤ 2 ^ 64 = pow_mono l in
-    let f : value % 2 ^ (4 * ((width + 3) / 4)) ≡ value = fits width value h in
-    let total : 0 * 2 ^ (4 * ((width + 3) / 4)) + value % 2 ^ (4 * ((width + 3) / 4)) ≡ value = omega arith in
-    let read : numeral 16 0 digits ≡ Some value = hex_read ((width + 3) / 4) 0 value (omega arith) ∙ ap (λ x. Some x) total in
-    let rest : drop (prefix_len is_digit (decimal width ++ codes "'h" ++ digits) + 2) (decimal width ++ codes "'h" ++ digits) ≡ digits =
-    behind_width (decimal width) digits (decimal_digits width (omega arith)) in
-    rw rest (rw read (rw (bytes_same (decimal width ++ codes "'h" ++ digits)) refl))
+    let w : width ≤ 4 * ((width + 3) / 4) = omega arith in
+    let m : 2 ^ width ≤ 2 ^ (4 * ((width + 3) / 4)) = pow_mono w in
+    digits_read width value (omega arith) l

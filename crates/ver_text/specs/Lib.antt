@@ -5,6 +5,7 @@ pub mod Grammar
 pub mod Kinds
 pub mod Lexemes
 pub mod Numerals
+pub mod PartLaw
 pub mod Parts
 pub mod Reading
 pub mod Spelling

@@ -1,3 +1,4 @@
+ghost use Rattle.ver_text.specs.PartLaw.{RefusedPartIsWrong};
 ghost use Rattle.ver_text.specs.SyntaxLaw.{RefusalIsFirst};
 ghost use Rattle.ver_text.specs.TestLaw.{TestsAreExact};
 ghost use Rattle.ver_text.specs.TextLaw.{PrintedIsRead, PrintedSpells, ReadSpells, SpelledIsRead, SpellsOne};
@@ -8,8 +9,14 @@ pub fn syntax_law()
     ensures { RefusalIsFirst }
 {}
 
-/// Numbers and ranges are read exactly where they are written so, literals only where they are, and the
-/// test of a cell is its rule.
+/// Where a text of the syntax is refused at a place, no netlist's text begins with the parts of it up to the
+/// one that begins there.
+pub fn parts_law()
+    ensures { RefusedPartIsWrong }
+{}
+
+/// Numbers, ranges and literals are read exactly where they are written so, and the test of a cell is its
+/// rule.
 pub fn tests_law()
     ensures { TestsAreExact }
 {}

@@ -20,6 +20,6 @@ mod token;
 mod writing;
 
 pub use fault::TextFault;
-pub use laws::{print_law, spelling_law, syntax_law, tests_law};
+pub use laws::{parts_law, print_law, spelling_law, syntax_law, tests_law};
 pub use printer::print;
 pub use reader::read;
