@@ -121,6 +121,12 @@ fn look(dive: &mut Dive, first: u64, place: u64, net: u64) -> Result<(), Memory>
     Ok(())
 }
 
+// Of the nets that a cell reads, the one in this turn.
+fn net_read(netlist: &Netlist, place: u64, turn: u64) -> Option<u64> {
+    let cell = netlist.cells.as_slice().get(place as usize)?;
+    three(cell.op).get(turn as usize).copied()
+}
+
 // Takes one step: looks at a net, goes back from a cell, or begins with the next one.
 fn step(netlist: &Netlist, first: u64, dive: &mut Dive) -> Result<(), Memory>
     requires { IsWellFormed netlist.now }
@@ -135,14 +141,8 @@ fn step(netlist: &Netlist, first: u64, dive: &mut Dive) -> Result<(), Memory>
     };
     let turn = at(&dive.turns, place);
     put(&mut dive.turns, place, turn.saturating_add(1));
-    match netlist.cells.as_slice().get(place as usize) {
-        Some(cell) => match three(cell.op).get(turn as usize) {
-            Some(net) => look(dive, first, place, *net),
-            None => {
-                leave(dive, place);
-                Ok(())
-            }
-        },
+    match net_read(netlist, place, turn) {
+        Some(net) => look(dive, first, place, net),
         None => {
             leave(dive, place);
             Ok(())

@@ -1,5 +1,6 @@
 -- No netlist's text begins with the parts up to the one that is refused.
-use Rattle.std.proofs.Common.{ℕ, ◌≡◌, List, [], ◌∷◌, ◌++◌, length, map, Bool, true, false, cond, Option, Some, None, Result, Err, refl, ap, sym, subst, ◌∙◌}
+use Rattle.std.proofs.Common.{ℕ, ◌≡◌, List, [], ◌∷◌, ◌++◌, length, map, Bool, true, false, cond, Option, Some, None, Result, Ok, Err, refl, ap, sym, subst, ◌∙◌}
+use Rattle.net_cells.specs.declared.netlist.Netlist.{Netlist}
 use Rattle.net_cells.specs.declared.netlist.Port.{Port}
 use Rattle.net_cells.specs.Rules.{IsWellFormed}
 use Rattle.ver_text.specs.declared.token.Token.{Token}
@@ -8,10 +9,10 @@ use Rattle.ver_text.specs.declared.part.Part.{Part}
 use Rattle.ver_text.specs.declared.part.Cursor.{Cursor}
 use Rattle.ver_text.specs.declared.progress.Progress.{Progress}
 use Rattle.ver_text.specs.Due.{at_first}
-use Rattle.ver_text.specs.Grammar.{next_state}
+use Rattle.ver_text.specs.Grammar.{next_state, start}
 use Rattle.ver_text.specs.Parts.{at_start, ends, moved, moved_to, parts}
 use Rattle.ver_text.specs.PartLaw.{BeginsNone, RefusedPartIsWrong}
-use Rattle.ver_text.specs.Reading.{judged}
+use Rattle.ver_text.specs.Reading.{judged, named_netlist, netlist_of, parts_say, read_text, unless_refused}
 use Rattle.ver_text.specs.Spelling.{Sign, spelling}
 use Rattle.ver_text.specs.TextLaw.{sign_of}
 use Rattle.ver_text.specs.Tokens.{refused, tokens_from}
@@ -20,6 +21,8 @@ use Rattle.ver_text.proofs.Segments.{seen_start}
 use Rattle.ver_text.proofs.Signs.{due_is, due_seen, moved_is, said, seen_moved, seen_of}
 use Rattle.ver_text.proofs.Spelled.{final, made, spelled_said}
 use Rattle.ver_text.proofs.Spells.{first_input}
+use Rattle.ver_text.proofs.Sound.{got}
+use Rattle.ver_text.proofs.Told.{all_bare, told}
 
 -- behind what was read and known before, a part among these tokens isn't due
 record Stops (text : List ℕ) (c : Cursor) (p : Progress) (ts : List Token) (place : ℕ) : Type 0 where
@@ -133,7 +136,29 @@ begins_none front h n w more e =
     let s : spelling m ≡ front ++ more = ap spelling (sym g) ∙ e in
     none_and_some (said at_first seen_start (spelling m)) (final n.name f.0 n.regs n.cells n.outputs) (ap (said at_first seen_start) s ∙ h more) all
 
+by_parts : (text : List ℕ) (place : ℕ) (r : Result Progress ℕ) → judged text at_first (parts at_start (tokens_from text 0)) ≡ r
+    → refused start (tokens_from text 0) (length text) ≡ None → netlist_of r ≡ Err place → judged text at_first (parts at_start (tokens_from text 0)) ≡ Err place
+by_parts text place (Err other) j n e = let f : other ≡ place = cc in j ∙ ap Err f
+by_parts text place (Ok p) j n e =
+    let g = got (map (sign_of text) (tokens_from text 0)) p (all_bare text (tokens_from text 0)) (told text (tokens_from text 0) at_start (length text) at_first p n j) in
+    absurd (ok_and_err (made g.name g.is g.rs g.cs g.os) place (subst (λ (q : Progress). named_netlist q.name q ≡ Err place) (sym g.final) e))
+  where
+    ok_and_err : (m : Netlist) (place : ℕ) → ◌≡◌ {A = Result Netlist ℕ} (Ok m) (Err place) → ⊥
+    ok_and_err m place e = cc
+
+by_refusal : (text : List ℕ) (place : ℕ) (o : Option ℕ) → o ≡ None → unless_refused o (parts_say text) ≡ Err place → parts_say text ≡ Err place
+by_refusal text place None n e = e
+by_refusal text place (Some other) n e = cc
+
+parts_refuse : (text : List ℕ) (place : ℕ) → refused start (tokens_from text 0) (length text) ≡ None → parts_say text ≡ Err place → judged text at_first (parts at_start (tokens_from text 0)) ≡ Err place
+unfolding parts_say
+parts_refuse text place n e = by_parts text place (judged text at_first (parts at_start (tokens_from text 0))) refl n e
+
+read_refuses : (text : List ℕ) (place : ℕ) → refused start (tokens_from text 0) (length text) ≡ None → read_text text ≡ Err place → parts_say text ≡ Err place
+unfolding read_text
+read_refuses text place n e = by_refusal text place (refused start (tokens_from text 0) (length text)) n e
+
 pub refused_part : RefusedPartIsWrong
 refused_part text place n e =
-    let h = stops text (tokens_from text 0) at_start at_first (length text) place n e in
+    let h = stops text (tokens_from text 0) at_start at_first (length text) place n (parts_refuse text place n (read_refuses text place n e)) in
     record { before = h.before; last = h.last; more = h.more; part = h.part; split = h.split; ends = h.ends; begins = h.begins; none = begins_none (map (sign_of text) (h.before ++ h.last ∷ [])) h.none }

@@ -54,7 +54,7 @@ all_widths is gs vs = (widths_of (ins_of is) ++ gs) ++ vs
 abbrev call_of : List Port → ℕ → ℕ → List ℕ
 call_of is count = called (ins_of is) (length (ins_of is) + count)
 
-record Got (q : Progress) (ss : List Sign) : Type 0 where
+pub record Got (q : Progress) (ss : List Sign) : Type 0 where
   pub name : List ℕ
   pub is : List Port
   pub ds : List Port
@@ -124,7 +124,7 @@ gathered ss q h p r =
       within = s.within;
     }
 
-got : (ss : List Sign) (q : Progress) → AllByRecursion Bare ss → said at_first seen_start ss ≡ Some q → Got q ss
+pub got : (ss : List Sign) (q : Progress) → AllByRecursion Bare ss → said at_first seen_start ss ≡ Some q → Got q ss
 got ss q b e =
     let h = head ss q b e in
     let p = ports (length h.rest) h.name reset_port q h.rest [] [] h.next (omega arith) h.bare (tt, tt) h.bound h.goes in

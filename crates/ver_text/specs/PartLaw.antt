@@ -4,10 +4,9 @@ use Rattle.net_cells.specs.declared.netlist.Netlist.{Netlist}
 use Rattle.net_cells.specs.Rules.{IsWellFormed}
 use Rattle.ver_text.specs.declared.token.Token.{Token}
 use Rattle.ver_text.specs.declared.part.Part.{Part}
-use Rattle.ver_text.specs.Due.{at_first}
 use Rattle.ver_text.specs.Grammar.{start}
 use Rattle.ver_text.specs.Parts.{at_start, parts}
-use Rattle.ver_text.specs.Reading.{judged}
+use Rattle.ver_text.specs.Reading.{read_text}
 use Rattle.ver_text.specs.Spelling.{Sign, spelling}
 use Rattle.ver_text.specs.TextLaw.{sign_of}
 use Rattle.ver_text.specs.Tokens.{refused, tokens_from}
@@ -27,10 +26,9 @@ pub record IsRefusedPart (text : List ℕ) (place : ℕ) : Type 0 where
   pub begins : part.head.start ≡ place
   pub none : BeginsNone (map (sign_of text) (before ++ last ∷ []))
 
--- Where the syntax holds and a text is refused at a place by its parts, no netlist's text begins with those up to the
--- one that begins there.
+-- Where a text that has the syntax is refused at a place, a part begins there, and no netlist's text begins with the
+-- parts up to it.
 abbrev pub RefusedPartIsWrong : Type 0
 RefusedPartIsWrong =
     (text : List ℕ) (place : ℕ)
-    → refused start (tokens_from text 0) (length text) ≡ None
-    → judged text at_first (parts at_start (tokens_from text 0)) ≡ Err place → IsRefusedPart text place
+    → refused start (tokens_from text 0) (length text) ≡ None → read_text text ≡ Err place → IsRefusedPart text place

@@ -9,8 +9,8 @@ pub fn syntax_law()
     ensures { RefusalIsFirst }
 {}
 
-/// Where a text of the syntax is refused at a place, no netlist's text begins with the parts of it up to the
-/// one that begins there.
+/// Where a text that has the syntax is refused at a place, a part begins there, and no netlist's text begins
+/// with the parts up to it.
 pub fn parts_law()
     ensures { RefusedPartIsWrong }
 {}
