@@ -52,7 +52,7 @@ pub fn check(alloc: Global, design: &Design, rules: &Rules) -> Result<Accepted, 
     let edges = agreed.edges;
     let solution = agreed.solution;
     // the sizes are ranges by their type, which proofs know of a value only where a call has met it
-    let _largest = edges_have_sizes(solution.up.as_slice());
+    edges_have_sizes(solution.up.as_slice());
     let plan = plan_of(alloc, design, rules, edges.as_slice(), &solution)?;
     Ok(Accepted {
         edges,
