@@ -1,4 +1,4 @@
--- How many items an array has.
+-- Headings with nodes, and names by their tables.
 use Rattle.std.proofs.Common.{ℕ, ◌≡◌, ◌≤◌, ◌+◌, List, [], ◌∷◌, length, false, ◌||◌, ◌==◌, nat_le, Option, Some, None, is_none, refl, sym, ◌∙◌, ap, arith}
 use Rattle.std.proofs.lemmas.Bool.Decides.{nat_tests}
 use Rattle.toml.specs.declared.value.Value.{Value}
@@ -6,16 +6,9 @@ use Rattle.toml.specs.Data.{Items, no_items, item}
 use Rattle.toml.specs.View.{items_view}
 use Rattle.dip_lists.specs.First.{first}
 use Rattle.soc_design.specs.declared.limits.Heading.{Heading}
-use Rattle.soc_design.specs.Reading.{count, at_top}
 use Rattle.soc_design.specs.Stated.{names_at}
-
-pub count-items_view : (values : List Value) → count (items_view values) ≡ length values
-count-items_view [] = refl
-count-items_view (v ∷ values) = let rest : count (items_view values) ≡ length values = count-items_view values in omega arith
-
--- counted behind others
-pub count_behind : (before before' : ℕ) (values : List Value) (ds : Items) → before ≡ before' → items_view values ≡ ds → before + length values ≡ before' + count ds
-count_behind before before' values ds b e = let n : length values ≡ count ds = sym (count-items_view values) ∙ ap count e in omega arith
+use Rattle.toml_shape.specs.Entries.{at_top, count}
+use Rattle.toml_shape.proofs.Counting.{count-items_view}
 
 some_not_none : (n : ℕ) → nat_le (1 + n) 0 ≡ false
 some_not_none n = grind (arith, nat_tests)

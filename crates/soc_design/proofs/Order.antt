@@ -11,8 +11,9 @@ use Rattle.dip_lists.proofs.FirstFailures.{first_law}
 use Rattle.soc_design.specs.Shape.{top_has_shape, module_has_shape, node_has_shape, bind_has_shape}
 use Rattle.soc_design.specs.Stated.{heading_of, names_at}
 use Rattle.dip_graph.specs.Limits.{most_modules, most_binds}
-use Rattle.soc_design.specs.Reading.{modules_in, nodes_in, binds_in, count, first_node, first_bind, at_top, failing, shape_checks, top_is_beyond, is_past, node_is_beyond, limit_checks, heading_name, module_names, node_names, module_is_unnamed, node_is_unnamed, bind_is_unnamed, name_checks, tree_checks, tree_of, checks_of_tree, file_checks}
+use Rattle.soc_design.specs.Reading.{modules_in, nodes_in, binds_in, first_node, first_bind, shape_checks, top_is_beyond, node_is_beyond, limit_checks, heading_name, module_names, node_names, module_is_unnamed, node_is_unnamed, bind_is_unnamed, name_checks, tree_checks, tree_of, checks_of_tree, file_checks}
 use Rattle.soc_design.specs.Order.{FileOrderLaw}
+use Rattle.toml_shape.specs.Entries.{at_top, count, failing, is_past}
 
 abbrev Rise : List ℕ → Type 0
 Rise entries = AllPairs (λ entry later. entry < later) entries

@@ -17,9 +17,10 @@ use Rattle.dip_graph.specs.declared.design.NodeKind.{NodeKind}
 use Rattle.dip_graph.specs.declared.design.NodeKind.TheVariants.{Ruled}
 use Rattle.toml_shape.specs.Shapes.{short_name, number_within, text_under, name_under, number_under, pair_of, integer_of, table_under}
 use Rattle.soc_design.specs.Limits.{most_transfer, most_address, most_beat}
-use Rattle.soc_design.specs.Stated.{before, all_of, of_length, sizes_of_pair, stated_sizes, operations_in, operations_under, set_of_pair, set_of}
+use Rattle.soc_design.specs.Stated.{sizes_of_pair, stated_sizes, operations_in, operations_under, set_of_pair, set_of}
 use Rattle.soc_design.specs.Stated.{stated_sets, stated_ports, port_count_of, port_count_in, source_of, stated_beat, beat_under, sink_of, arg_of, args_of}
 use Rattle.soc_design.specs.Stated.{ruled_of, named_kind_of, kind_of}
+use Rattle.toml_shape.specs.Entries.{all_of, before, of_length}
 
 -- ---- options
 

@@ -22,12 +22,13 @@ use Rattle.dip_graph.specs.declared.design.Design.{Design}
 use Rattle.toml_shape.specs.Shapes.{name_under, number_under, text_under}
 use Rattle.soc_design.specs.declared.limits.Heading.{Heading}
 use Rattle.soc_design.specs.declared.nodes.LimitedNode.{LimitedNode}
-use Rattle.soc_design.specs.Stated.{before, all_of, each_of, kind_of, node_of, heading_of, policy_in, name_at, names_at, module_named, module_under, new_name}
+use Rattle.soc_design.specs.Stated.{kind_of, node_of, heading_of, policy_in, name_at, names_at, module_named, module_under, new_name}
 use Rattle.soc_design.specs.Stated.{module_after, module_at, module_of, node_in, placed_node, node_under, bind_of, star_in}
-use Rattle.soc_design.specs.Reading.{modules_in, nodes_in, binds_in, failing, module_names, node_names, node_is_unnamed, unnamed_modules_in, unnamed_nodes_in, unnamed_binds_in}
+use Rattle.soc_design.specs.Reading.{modules_in, nodes_in, binds_in, module_names, node_names, node_is_unnamed, unnamed_modules_in, unnamed_nodes_in, unnamed_binds_in}
 use Rattle.soc_design.specs.Reading.{stated_modules, stated_nodes, stated_binds, design_with, design_of}
 use Rattle.soc_design.specs.Reading.{tree_checks, shape_checks, limit_checks, name_checks, heading_name, first_node}
 use Rattle.soc_design.proofs.StatedKinds.{and_then, then_map, if_some, each, short, right_kind}
+use Rattle.toml_shape.specs.Entries.{all_of, before, each_of, failing}
 
 -- ---- what a name numbers
 

@@ -5,10 +5,10 @@ use Rattle.std.specs.Option.{option_and_then, option_map}
 use Rattle.std.specs.List.{list_any}
 use Rattle.std.specs.Str.{bytes_eq, is_utf8}
 use Rattle.toml.specs.Parse.{parse_document}
-use Rattle.toml.specs.Data.{Data, Items, no_items, item, Members}
+use Rattle.toml.specs.Data.{Data, Items, Members}
 use Rattle.dip_lists.specs.First.{Check, check}
 use Rattle.dip_graph.specs.declared.design.Design.{Design}
-use Rattle.toml_shape.specs.Shapes.{tables_under}
+use Rattle.toml_shape.specs.Entries.{all_of, at_top, count, failing, is_past, tables_in}
 use Rattle.dip_graph.specs.declared.design.ModuleEntry.{ModuleEntry}
 use Rattle.dip_graph.specs.declared.design.NodeEntry.{NodeEntry}
 use Rattle.dip_graph.specs.declared.design.BindEntry.{BindEntry}
@@ -16,14 +16,10 @@ use Rattle.soc_design.specs.declared.limits.Heading.{Heading}
 pub use Rattle.soc_design.specs.Limits.{most_bytes}
 use Rattle.dip_graph.specs.Limits.{most_modules, most_nodes, most_binds}
 use Rattle.soc_design.specs.Shape.{top_has_shape, module_has_shape, node_has_shape, bind_has_shape}
-use Rattle.soc_design.specs.Stated.{all_of, heading_of, node_of, placed_node, name_at, names_at}
+use Rattle.soc_design.specs.Stated.{heading_of, node_of, placed_node, name_at, names_at}
 use Rattle.soc_design.specs.Stated.{module_at, modules_of, module_of, bind_of}
 
 -- ---- entries: the top table is entry 0, then come the modules, the nodes and the binds, each in file order
-
--- the tables of the array under a key, none where there is no such array
-abbrev pub tables_in : List ℕ → Members → Items
-tables_in key ms = unwrap_or (tables_under key ms) no_items
 
 -- the tables of the modules
 abbrev pub modules_in : Members → Items
@@ -37,11 +33,6 @@ nodes_in = tables_in (codes "node")
 abbrev pub binds_in : Members → Items
 binds_in = tables_in (codes "bind")
 
--- how many items there are
-abbrev pub count : Items → ℕ
-count no_items = 0
-count (item d ds) = 1 + count ds
-
 -- the entry of the first node: the top table and the modules stand before
 abbrev pub first_node : Members → ℕ
 first_node ms = 1 + count (modules_in ms)
@@ -49,16 +40,6 @@ first_node ms = 1 + count (modules_in ms)
 -- the entry of the first bind: the nodes stand before
 abbrev pub first_bind : Members → ℕ
 first_bind ms = first_node ms + count (nodes_in ms)
-
--- entry 0, where something fails there
-abbrev pub at_top : Bool → List ℕ
-at_top fails = cond fails (0 ∷ []) []
-
--- the entries of the items at which a test fails; the test sees an item's place among its kind and its data
-abbrev pub failing : (ℕ → Data → Bool) → ℕ → ℕ → Items → List ℕ
-failing fails place entry no_items = []
-failing fails place entry (item d ds) =
-    cond (fails place d) (entry ∷ failing fails (place + 1) (entry + 1) ds) (failing fails (place + 1) (entry + 1) ds)
 
 -- ---- check 2: the shape
 
@@ -77,11 +58,7 @@ shape_checks ms =
 abbrev pub top_is_beyond : Members → Bool
 top_is_beyond ms = is_none (heading_of ms) || nat_le (count (nodes_in ms)) 0
 
--- a table past the allowed number
-abbrev pub is_past : ℕ → ℕ → Data → Bool
-is_past most place d = nat_le most place
-
--- the same, or a node with a number beyond its limits
+-- a node past the allowed number, or with a number beyond its limits
 abbrev pub node_is_beyond : ℕ → Data → Bool
 node_is_beyond place d = is_past most_nodes place d || is_none (node_of d)
 

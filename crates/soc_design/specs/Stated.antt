@@ -18,31 +18,13 @@ use Rattle.dip_graph.specs.declared.design.BindEntry.{BindEntry}
 use Rattle.dip_graph.specs.declared.design.Star.{Star}
 use Rattle.dip_graph.specs.declared.design.Star.TheVariants.{One, FromStar, ToStar}
 use Rattle.tl_params.specs.Arguments.{is_width}
+use Rattle.toml_shape.specs.Entries.{all_of, each_of, of_length}
 use Rattle.toml_shape.specs.Shapes.{integer_of, text_of, pair_of, number_within}
 use Rattle.toml_shape.specs.Shapes.{table_under, text_under, name_under, number_under}
 use Rattle.dip_graph.specs.Limits.{most_atomic, most_sets, most_ports, most_source_ids, most_args}
 use Rattle.soc_design.specs.Limits.{most_transfer, most_address, most_beat, most_arg}
 use Rattle.soc_design.specs.declared.limits.Heading.{Heading}
 use Rattle.soc_design.specs.declared.nodes.LimitedNode.{LimitedNode}
-
--- what an item states before what the rest does, where both state something
-abbrev pub before : {A : Type 0} → Option A → Option (List A) → Option (List A)
-before None rest = None
-before (Some x) rest = option_map (λ xs. x ∷ xs) rest
-
--- what the items of an array state, where each states something
-abbrev pub all_of : {A : Type 0} → (Data → Option A) → Items → Option (List A)
-all_of states no_items = Some []
-all_of states (item d ds) = before (states d) (all_of states ds)
-
--- the same, where what an item states depends on its place
-abbrev pub each_of : {A : Type 0} → (ℕ → Data → Option A) → ℕ → Items → Option (List A)
-each_of states place no_items = Some []
-each_of states place (item d ds) = before (states place d) (each_of states (place + 1) ds)
-
--- a list with so many items
-abbrev pub of_length : {A : Type 0} → ℕ → ℕ → List A → Option (List A)
-of_length least most xs = cond (nat_le least (length xs) && nat_le (length xs) most) (Some xs) None
 
 -- ---- sizes of transfers, in bytes
 

@@ -1,21 +1,22 @@
-ghost use Rattle.std.specs.Prelude.{◌≡◌, ◌≤◌, ◌<◌, ◌^◌, ◌+◌, length, All, IfOk, IfErr, IfNone, OnOk, Some, None};
+ghost use Rattle.std.specs.Prelude.{◌≡◌, ◌≤◌, ◌<◌, ◌^◌, ◌+◌, length, All, IfOk, IfErr, OnOk, Some, None};
 ghost use Rattle.toml.specs.View.{table_view, items_view};
 ghost use Rattle.dip_lists.specs.First.{first, first_failing};
 ghost use Rattle.soc_design.specs.Stated as spec;
 ghost use Rattle.dip_graph.specs.Faults.{IsFaultAt, IsFaultOf};
-ghost use Rattle.soc_design.specs.Reading.{count, modules_in, nodes_in, binds_in, failing, at_top};
-ghost use Rattle.soc_design.specs.Reading.{top_is_beyond, is_past, node_is_beyond, limit_checks};
+ghost use Rattle.toml_shape.specs.Entries.{all_of, at_top, count, failing};
+ghost use Rattle.soc_design.specs.Reading.{modules_in, nodes_in, binds_in};
+ghost use Rattle.soc_design.specs.Reading.{top_is_beyond, node_is_beyond, limit_checks};
 ghost use Rattle.soc_design.specs.Reading.{beyond_modules, beyond_nodes, beyond_binds};
 
 use crate::nodes::{LimitedNodes, node_of};
-use crate::tables::{first_bind, first_node, named, tables_in};
+use crate::tables::{first_bind, first_node, named};
 use dip_graph::{Fault, MOST_BINDS, MOST_MODULES, MOST_NODES};
 use dip_lists::{Items, Memory};
 use dip_sets::Name;
 use std::alloc::Global;
 use tl_params::Policy;
 use toml::{Table, Value};
-use toml_shape::{name_under, number_under, under};
+use toml_shape::{first_past, name_under, number_under, tables_in, under};
 
 /// What the top table of a design file states besides its arrays.
 #[derive(Drop)]
@@ -29,7 +30,7 @@ pub struct Heading {
 // and the first table past the allowed number, or with a number beyond its limits.
 fn limited_nodes(alloc: Global, nodes: &[Value], entry: u64) -> Result<LimitedNodes, Fault>
     requires { entry + length nodes.now < 2 ^ 64 }
-    ensures ok { IfOk result (λ stated. spec.all_of spec.node_of (items_view nodes.now) ≡ Some stated) }
+    ensures ok { IfOk result (λ stated. all_of spec.node_of (items_view nodes.now) ≡ Some stated) }
     ensures passes { IfOk result (λ _. first (failing node_is_beyond 0 entry (items_view nodes.now)) ≡ None) }
     ensures few { IfOk result (λ _. length nodes.now ≤ 256) }
     ensures counted { IfOk result (λ stated. length stated ≡ length nodes.now) }
@@ -50,19 +51,6 @@ fn limited_nodes(alloc: Global, nodes: &[Value], entry: u64) -> Result<LimitedNo
         stated.push(node)?;
     }
     Ok(stated)
-}
-
-// The first of some tables past the allowed number of them, where the first one is the entry `entry`.
-fn first_past(tables: &[Value], most: usize, entry: u64) -> Option<u64>
-    requires { entry + length tables.now < 2 ^ 64 }
-    ensures value { result ≡ first (failing (is_past most) 0 entry (items_view tables.now)) }
-    ensures few { IfNone result (length tables.now ≤ most) }
-{
-    if tables.len() > most {
-        Some(entry + most as u64)
-    } else {
-        None
-    }
 }
 
 // The policy of a design: the lowest input first where it is missing.
@@ -126,7 +114,7 @@ fn heading_within(alloc: Global, table: &Table) -> Result<Heading, Fault>
 
 // The nodes of a file.
 fn nodes_within(alloc: Global, table: &Table) -> Result<LimitedNodes, Fault>
-    ensures ok { IfOk result (λ nodes. spec.all_of spec.node_of (nodes_in (table_view table.now)) ≡ Some
+    ensures ok { IfOk result (λ nodes. all_of spec.node_of (nodes_in (table_view table.now)) ≡ Some
         nodes) }
     ensures few { IfOk result (λ _. count (nodes_in (table_view table.now)) ≤ 256) }
     ensures counted { IfOk result (λ nodes. length nodes ≡ count (nodes_in (table_view table.now))) }
@@ -163,7 +151,7 @@ fn binds_within(table: &Table) -> Result<(), Fault>
 /// The top table and the nodes of a file; `Fault::Check` names check 3 and the first entry beyond the limits.
 pub fn limited(alloc: Global, table: &Table) -> Result<LimitedFile, Fault>
     ensures heading { IfOk result (λ file. spec.heading_of (table_view table.now) ≡ Some file.heading) }
-    ensures nodes { IfOk result (λ file. spec.all_of spec.node_of (nodes_in (table_view table.now)) ≡ Some
+    ensures nodes { IfOk result (λ file. all_of spec.node_of (nodes_in (table_view table.now)) ≡ Some
         file.nodes) }
     ensures few_modules { IfOk result (λ _. count (modules_in (table_view table.now)) ≤ 255) }
     ensures some_node { IfOk result (λ _. 1 ≤ count (nodes_in (table_view table.now))) }

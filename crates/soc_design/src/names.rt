@@ -3,20 +3,21 @@ ghost use Rattle.toml.specs.View.{table_view, view};
 ghost use Rattle.std.specs.List.{list_any};
 ghost use Rattle.std.specs.Str.{bytes_eq};
 ghost use Rattle.dip_lists.specs.First.{first, first_failing};
+ghost use Rattle.toml_shape.specs.Entries.{all_of, count};
 ghost use Rattle.soc_design.specs.Stated as spec;
 ghost use Rattle.dip_graph.specs.Faults.{IsFaultAt, IsFaultOf};
 ghost use Rattle.soc_design.specs.Reading as reading;
 
 use crate::limits::{Heading, LimitedFile};
 use crate::nodes::{LimitedNode, LimitedNodes};
-use crate::tables::{first_bind, first_node, named, tables_in};
+use crate::tables::{first_bind, first_node, named};
 use dip_graph::{BindEntry, Binds, Design, Fault, ModuleEntry, ModuleTree, NodeEntry, Nodes, Star};
 use dip_lists::{Items, Memory};
 use dip_names::Names;
 use dip_sets::Name;
 use std::alloc::Global;
 use toml::{Table, Value};
-use toml_shape::{name_under, text_under, under};
+use toml_shape::{name_under, tables_in, text_under, under};
 
 /// The modules of a design, and their names by their numbers.
 #[derive(Drop)]
@@ -91,7 +92,7 @@ fn top_module(alloc: Global, top: &Name) -> Result<NamedModules, Memory>
 
 // The modules of a file, in a design named `top`.
 fn stated_modules(alloc: Global, top: &Name, table: &Table) -> Result<NamedModules, Fault>
-    requires { reading.count (reading.modules_in (table_view table.now)) ≤ 255 }
+    requires { count (reading.modules_in (table_view table.now)) ≤ 255 }
     ensures names { IfOk result (λ modules. modules.names ≡ reading.module_names top.now
         (table_view table.now)) }
     ensures tree { IfOk result (λ modules. reading.stated_modules top.now (table_view table.now) ≡ Some
@@ -142,11 +143,11 @@ fn stated_nodes(
 ) -> Result<NamedNodes, Fault>
     requires some { 1 ≤ length modules.now }
     requires few { length modules.now ≤ 256 }
-    requires limited { spec.all_of spec.node_of (reading.nodes_in (table_view table.now)) ≡ Some limited }
+    requires limited { all_of spec.node_of (reading.nodes_in (table_view table.now)) ≡ Some limited }
     ensures names { IfOk result (λ nodes. nodes.names ≡ reading.node_names (table_view table.now)) }
     ensures nodes { IfOk result (λ nodes. reading.stated_nodes modules.now (table_view table.now) ≡ Some
         nodes.nodes) }
-    ensures counted { IfOk result (λ nodes. length nodes.nodes ≡ reading.count
+    ensures counted { IfOk result (λ nodes. length nodes.nodes ≡ count
         (reading.nodes_in (table_view table.now))) }
     ensures passes { IfOk result (λ _. first (reading.unnamed_nodes_in modules.now (table_view table.now)) ≡
         None) }
@@ -228,9 +229,9 @@ fn bind_of(names: &Names, value: &Value) -> Option<BindEntry>
 // The binds of a file between named nodes.
 fn stated_binds(alloc: Global, names: &Names, table: &Table) -> Result<Binds, Fault>
     requires { length names.now ≤ 256 }
-    ensures ok { IfOk result (λ binds. spec.all_of (spec.bind_of names.now)
+    ensures ok { IfOk result (λ binds. all_of (spec.bind_of names.now)
         (reading.binds_in (table_view table.now)) ≡ Some binds) }
-    ensures counted { IfOk result (λ binds. length binds ≡ reading.count
+    ensures counted { IfOk result (λ binds. length binds ≡ count
         (reading.binds_in (table_view table.now))) }
     ensures passes { IfOk result (λ _. first (reading.unnamed_binds_in names.now (table_view table.now)) ≡
         None) }
@@ -255,15 +256,15 @@ fn stated_binds(alloc: Global, names: &Names, table: &Table) -> Result<Binds, Fa
 /// one's name or without an earlier parent, or else the first node with an earlier node's name or in an
 /// unknown module, or else the first bind that names a node that isn't there.
 pub fn named_design(alloc: Global, file: LimitedFile, table: &Table) -> Result<Design, Fault>
-    requires nodes { spec.all_of spec.node_of (reading.nodes_in (table_view table.now)) ≡ Some file.nodes }
-    requires few_modules { reading.count (reading.modules_in (table_view table.now)) ≤ 255 }
-    requires few_nodes { reading.count (reading.nodes_in (table_view table.now)) ≤ 256 }
+    requires nodes { all_of spec.node_of (reading.nodes_in (table_view table.now)) ≡ Some file.nodes }
+    requires few_modules { count (reading.modules_in (table_view table.now)) ≤ 255 }
+    requires few_nodes { count (reading.nodes_in (table_view table.now)) ≤ 256 }
     ensures ok { IfOk result (λ design. reading.design_with (table_view table.now) file.heading ≡ Some
         design) }
     ensures modules { IfOk result (λ design. length design.modules ≤ 256) }
-    ensures nodes { IfOk result (λ design. length design.nodes ≡ reading.count
+    ensures nodes { IfOk result (λ design. length design.nodes ≡ count
         (reading.nodes_in (table_view table.now))) }
-    ensures binds { IfOk result (λ design. length design.binds ≡ reading.count
+    ensures binds { IfOk result (λ design. length design.binds ≡ count
         (reading.binds_in (table_view table.now))) }
     ensures passes { IfOk result (λ _. first_failing (reading.named_checks file.heading.name
         (table_view table.now)) ≡ None) }

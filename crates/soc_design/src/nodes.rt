@@ -2,6 +2,7 @@ ghost use Rattle.std.specs.Prelude.{◌≡◌, ◌≤◌, ◌^◌, length, IsTru
 ghost use Rattle.toml.specs.Data.{get_member};
 ghost use Rattle.toml.specs.View.{table_view, view, items_view};
 ghost use Rattle.dip_sets.specs.Names as names;
+ghost use Rattle.toml_shape.specs.Entries.{all_of};
 ghost use Rattle.soc_design.specs.Stated as spec;
 
 use crate::tables::named;
@@ -80,7 +81,7 @@ fn set_of(value: &Value) -> Option<AddressSet>
 
 // The address sets of some items, where each states one.
 fn sets_in(alloc: Global, items: &[Value]) -> Result<Option<Addresses>, Memory>
-    ensures { IfOk result (λ sets. sets ≡ spec.all_of spec.set_of (items_view items.now)) }
+    ensures { IfOk result (λ sets. sets ≡ all_of spec.set_of (items_view items.now)) }
 {
     let mut sets = Few::new(alloc);
     for item in items {
@@ -111,7 +112,7 @@ fn stated_sets(alloc: Global, value: &Value) -> Result<Option<Addresses>, Memory
 
 // The address sets of some ports, where each states some.
 fn ports_in(alloc: Global, items: &[Value]) -> Result<Option<AddressLists>, Memory>
-    ensures { IfOk result (λ ports. ports ≡ spec.all_of spec.stated_sets (items_view items.now)) }
+    ensures { IfOk result (λ ports. ports ≡ all_of spec.stated_sets (items_view items.now)) }
 {
     let mut ports = Items::new(alloc);
     for item in items {
@@ -210,7 +211,7 @@ fn arg_of(value: &Value) -> Option<u32>
 
 // The arguments of some items, where each states one.
 fn args_in(alloc: Global, items: &[Value]) -> Result<Option<Args>, Memory>
-    ensures { IfOk result (λ args. args ≡ spec.all_of spec.arg_of (items_view items.now)) }
+    ensures { IfOk result (λ args. args ≡ all_of spec.arg_of (items_view items.now)) }
 {
     let mut args = Items::new(alloc);
     for item in items {

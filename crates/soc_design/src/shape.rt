@@ -5,13 +5,14 @@ ghost use Rattle.toml_shape.specs.Shapes.{has, may_have};
 ghost use Rattle.std.specs.Option.{option_map};
 ghost use Rattle.dip_lists.specs.First.{first, first_failing, failure_of};
 ghost use Rattle.soc_design.specs.Shape as spec;
-ghost use Rattle.soc_design.specs.Reading.{failing, shape_checks};
+ghost use Rattle.toml_shape.specs.Entries.{failing};
+ghost use Rattle.soc_design.specs.Reading.{shape_checks};
 
-use crate::tables::{first_bind, first_node, tables_in};
+use crate::tables::{first_bind, first_node};
 use toml::{Table, Value};
 use toml_shape::{
     integer_under, keys_among, may_have_integer, may_have_name, may_have_text, name_under, pair,
-    tables_under, under,
+    tables_in, tables_under, under,
 };
 
 /// What the tables of an array of the top table are.

@@ -1,23 +1,13 @@
 ghost use Rattle.std.specs.Prelude.{◌≡◌, ◌<◌, ◌^◌, IsTrue, IfOk};
-ghost use Rattle.toml.specs.View.{table_view, items_view};
+ghost use Rattle.toml.specs.View.{table_view};
 ghost use Rattle.dip_sets.specs.Names as names;
 ghost use Rattle.soc_design.specs.Reading as spec;
 
 use dip_lists::Memory;
 use dip_sets::Name;
 use std::alloc::Global;
-use toml::{Table, Value};
-use toml_shape::tables_under;
-
-/// The tables of the array under a key, none where there is no such array.
-pub fn tables_in<'a>(table: &'a Table, key: &str) -> &'a [Value]
-    ensures { items_view result.now ≡ spec.tables_in key.now (table_view table.now) }
-{
-    match tables_under(table, key) {
-        Some(tables) => tables,
-        None => &[],
-    }
-}
+use toml::Table;
+use toml_shape::tables_in;
 
 /// The entry of the first node: the top table is entry 0, and the modules stand before.
 pub fn first_node(table: &Table) -> u64

@@ -2,9 +2,11 @@
 //! definition on the tree's data.
 #![tactic(auto)]
 
+mod entries;
 mod table;
 mod value;
 
+pub use entries::{first_past, tables_in};
 pub use table::{
     integer_under, keys_among, keys_law, may_have_integer, may_have_name, may_have_text,
     name_under, number_under, table_under, tables_under, text_under, under,

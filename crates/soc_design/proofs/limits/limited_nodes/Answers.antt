@@ -2,8 +2,8 @@ use Rattle.std.proofs.Common.{◌∙◌, ap, sym, arith, length}
 use Rattle.soc_design.specs.Stated as spec
 use Rattle.dip_graph.specs.Limits.{most_nodes}
 use Rattle.soc_design.specs.Reading.{node_is_beyond}
-use Rattle.soc_design.proofs.Failing.{passes}
-use Rattle.soc_design.proofs.Stating.{states_more, within, one_more}
+use Rattle.toml_shape.proofs.Failing.{passes}
+use Rattle.toml_shape.proofs.Stating.{states_more, within, one_more}
 use Rattle.soc_design.proofs.limits.limited_nodes.Goals as goal
 
 pub loop-place-preserved : goal.loop-place-preserved

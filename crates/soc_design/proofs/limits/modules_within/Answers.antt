@@ -1,8 +1,9 @@
 use Rattle.std.proofs.Common.{◌≡◌, ◌∙◌, ap, sym, length}
 use Rattle.toml.specs.View.{table_view}
-use Rattle.soc_design.specs.Reading.{count, modules_in}
-use Rattle.soc_design.proofs.Counting.{count-items_view}
+use Rattle.soc_design.specs.Reading.{modules_in}
+use Rattle.toml_shape.proofs.Counting.{count-items_view}
 use Rattle.soc_design.proofs.limits.modules_within.Goals as goal
+use Rattle.toml_shape.specs.Entries.{count}
 
 pub returns-in-None-clause-few : goal.returns-in-None-clause-few
 returns-in-None-clause-few c =

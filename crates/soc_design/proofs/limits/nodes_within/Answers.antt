@@ -1,8 +1,9 @@
 use Rattle.std.proofs.Common.{◌≡◌, ◌∙◌, ap, sym, length}
 use Rattle.toml.specs.View.{table_view}
-use Rattle.soc_design.specs.Reading.{count, nodes_in}
-use Rattle.soc_design.proofs.Counting.{count-items_view}
+use Rattle.soc_design.specs.Reading.{nodes_in}
+use Rattle.toml_shape.proofs.Counting.{count-items_view}
 use Rattle.soc_design.proofs.limits.nodes_within.Goals as goal
+use Rattle.toml_shape.specs.Entries.{count}
 
 pub returns-clause-few : goal.returns-clause-few
 returns-clause-few c =

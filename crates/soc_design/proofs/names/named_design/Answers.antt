@@ -5,10 +5,11 @@ use Rattle.dip_graph.specs.declared.design.ModuleEntry.{ModuleEntry}
 use Rattle.dip_graph.specs.declared.design.NodeEntry.{NodeEntry}
 use Rattle.dip_graph.specs.declared.design.BindEntry.{BindEntry}
 use Rattle.soc_design.specs.declared.limits.Heading.{Heading}
-use Rattle.soc_design.specs.Stated.{all_of, bind_of}
-use Rattle.soc_design.specs.Reading.{count, nodes_in, binds_in, module_names, stated_modules, stated_nodes, stated_binds, design_with}
+use Rattle.soc_design.specs.Stated.{bind_of}
+use Rattle.soc_design.specs.Reading.{nodes_in, binds_in, module_names, stated_modules, stated_nodes, stated_binds, design_with}
 use Rattle.soc_design.proofs.Counting.{count-names_at}
 use Rattle.soc_design.proofs.names.named_design.Goals as goal
+use Rattle.toml_shape.specs.Entries.{all_of, count}
 
 joined : (ms : Members) (heading : Heading) (modules : List ModuleEntry) (nodes : List NodeEntry) (binds : List BindEntry)
     → stated_modules heading.name ms ≡ Some modules → stated_nodes (module_names heading.name ms) ms ≡ Some nodes → stated_binds ms ≡ Some binds

@@ -1,8 +1,9 @@
 use Rattle.std.proofs.Common.{◌≡◌, ◌∙◌, ap, sym, length, arith}
 use Rattle.toml.specs.View.{table_view}
-use Rattle.soc_design.specs.Reading.{count, binds_in}
-use Rattle.soc_design.proofs.Counting.{count-items_view}
+use Rattle.soc_design.specs.Reading.{binds_in}
+use Rattle.toml_shape.proofs.Counting.{count-items_view}
 use Rattle.soc_design.proofs.names.stated_binds.Goals as goal
+use Rattle.toml_shape.specs.Entries.{count}
 
 pub returns-clause-counted : goal.returns-clause-counted
 returns-clause-counted c =

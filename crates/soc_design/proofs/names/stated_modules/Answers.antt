@@ -1,12 +1,13 @@
 use Rattle.std.proofs.Common.{◌≡◌, ◌∙◌, ap, sym, arith, take, ◌++◌, ◌∷◌, [], is_none, length, rules}
 use Rattle.toml.specs.View.{view, table_view, items_view}
 use Rattle.soc_design.specs.Stated.{names_at, module_after, module_at}
-use Rattle.soc_design.specs.Reading.{module_is_unnamed, count, modules_in}
-use Rattle.soc_design.proofs.Counting.{count-items_view}
-use Rattle.soc_design.proofs.Failing.{passes}
+use Rattle.soc_design.specs.Reading.{module_is_unnamed, modules_in}
+use Rattle.toml_shape.proofs.Counting.{count-items_view}
+use Rattle.toml_shape.proofs.Failing.{passes}
 use Rattle.soc_design.proofs.Naming.{name_more, all_names}
-use Rattle.soc_design.proofs.Stating.{each_more, one_more}
+use Rattle.toml_shape.proofs.Stating.{each_more, one_more}
 use Rattle.soc_design.proofs.names.stated_modules.Goals as goal
+use Rattle.toml_shape.specs.Entries.{count}
 
 pub loop-place-init : goal.loop-place-init
 loop-place-init c =

@@ -2,9 +2,10 @@ use Rattle.std.proofs.Common.{◌≡◌, ◌≤◌, ◌+◌, ◌∷◌, ◌++◌
 use Rattle.std.specs.Option.{option_map}
 use Rattle.toml.specs.View.{table_view, items_view}
 use Rattle.dip_lists.specs.First.{first}
-use Rattle.soc_design.specs.Stated.{each_of, module_at, names_at}
-use Rattle.soc_design.specs.Reading.{failing, module_is_unnamed, stated_modules, unnamed_modules_in}
+use Rattle.soc_design.specs.Stated.{module_at, names_at}
+use Rattle.soc_design.specs.Reading.{module_is_unnamed, stated_modules, unnamed_modules_in}
 use Rattle.soc_design.proofs.names.stated_modules.Given as goal
+use Rattle.toml_shape.specs.Entries.{each_of, failing}
 
 abbrev pub invariant-loop-place : goal.invariant-loop-place
 invariant-loop-place l =

@@ -5,13 +5,14 @@ use Rattle.toml.specs.Data.{Items}
 use Rattle.std.specs.List.{list_any}
 use Rattle.std.specs.Str.{bytes_eq}
 use Rattle.dip_lists.specs.First.{first, failure_of}
-use Rattle.soc_design.specs.Stated.{all_of, node_of, node_in, name_at, names_at, module_of, placed_node}
-use Rattle.soc_design.specs.Reading.{node_is_unnamed, unnamed_nodes, count, first_node, nodes_in}
-use Rattle.soc_design.proofs.Counting.{count-items_view}
-use Rattle.soc_design.proofs.Failing.{passes, stops}
+use Rattle.soc_design.specs.Stated.{node_of, node_in, name_at, names_at, module_of, placed_node}
+use Rattle.soc_design.specs.Reading.{node_is_unnamed, unnamed_nodes, first_node, nodes_in}
+use Rattle.toml_shape.proofs.Counting.{count-items_view}
+use Rattle.toml_shape.proofs.Failing.{passes, stops}
 use Rattle.soc_design.proofs.Naming.{name_more, all_names, neither, first_of, node_name}
-use Rattle.soc_design.proofs.Stating.{states_more, states_less, all_counted, one_more}
+use Rattle.toml_shape.proofs.Stating.{states_more, states_less, all_counted, one_more}
 use Rattle.soc_design.proofs.names.stated_nodes.Goals as goal
+use Rattle.toml_shape.specs.Entries.{all_of, count}
 
 same_failing : (modules : List (List ℕ)) (entry entry' : ℕ) (ds ds' : Items) → entry ≡ entry' → ds ≡ ds'
     → first (unnamed_nodes modules entry ds) ≡ first (unnamed_nodes modules entry' ds')

@@ -3,9 +3,10 @@ use Rattle.std.specs.Option.{option_map}
 use Rattle.std.specs.Vec.Iter.{into_iter_items, into_iter_len}
 use Rattle.toml.specs.View.{table_view, items_view}
 use Rattle.dip_lists.specs.First.{first}
-use Rattle.soc_design.specs.Stated.{all_of, node_of, placed_node, names_at}
-use Rattle.soc_design.specs.Reading.{failing, node_is_unnamed, stated_nodes, unnamed_nodes_in}
+use Rattle.soc_design.specs.Stated.{node_of, placed_node, names_at}
+use Rattle.soc_design.specs.Reading.{node_is_unnamed, stated_nodes, unnamed_nodes_in}
 use Rattle.soc_design.proofs.names.stated_nodes.Given as goal
+use Rattle.toml_shape.specs.Entries.{all_of, failing}
 
 abbrev pub invariant-loop-place : goal.invariant-loop-place
 invariant-loop-place l =

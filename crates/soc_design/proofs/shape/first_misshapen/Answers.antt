@@ -1,6 +1,6 @@
 use Rattle.std.proofs.Common.{◌∙◌, ap, not, sym, arith}
 use Rattle.soc_design.specs.Shape.{part_has_shape}
-use Rattle.soc_design.proofs.Failing.{passes}
+use Rattle.toml_shape.proofs.Failing.{passes}
 use Rattle.soc_design.proofs.shape.first_misshapen.Goals as goal
 
 pub loop-place-preserved : goal.loop-place-preserved

@@ -5,8 +5,8 @@ use Rattle.dip_lists.specs.First.{check, first, first_failing, failure_of}
 use Rattle.soc_design.specs.declared.shape.Part.{Part}
 use Rattle.soc_design.specs.declared.shape.Part.TheVariants.{Module, Node, Bind}
 use Rattle.soc_design.specs.Shape.{part_has_shape}
-use Rattle.soc_design.specs.Reading.{failing, at_top}
 use Rattle.soc_design.proofs.shape.misshapen_entry.Goals as goal
+use Rattle.toml_shape.specs.Entries.{at_top, failing}
 
 -- what is found among the tables of a part is the first of those that fail
 first_of_part : (part : Part) (entry entry' : ℕ) (ds ds' : Items) (found : Option ℕ)

@@ -1,4 +1,4 @@
-use Rattle.soc_design.proofs.Counting.{count_behind}
+use Rattle.toml_shape.proofs.Counting.{count_behind}
 use Rattle.soc_design.proofs.tables.first_bind.Goals as goal
 
 pub returns-clause-value : goal.returns-clause-value

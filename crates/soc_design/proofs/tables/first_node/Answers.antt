@@ -1,5 +1,5 @@
 use Rattle.std.proofs.Common.{refl}
-use Rattle.soc_design.proofs.Counting.{count_behind}
+use Rattle.toml_shape.proofs.Counting.{count_behind}
 use Rattle.soc_design.proofs.tables.first_node.Goals as goal
 
 pub returns-clause-value : goal.returns-clause-value

@@ -6,7 +6,7 @@ use Rattle.toml.specs.declared.value.Value.{Value}
 use Rattle.toml.specs.Data.{Data}
 use Rattle.toml.specs.View.{view, items_view}
 use Rattle.toml.proofs.Views.{items_view-drop}
-use Rattle.soc_design.specs.Stated.{all_of, each_of, before}
+use Rattle.toml_shape.specs.Entries.{all_of, before, each_of}
 
 regroup : {A : Type 0} (stated : List A) (x : A) (rest : Option (List A))
     → option_map (λ xs. (stated ++ x ∷ []) ++ xs) rest ≡ option_map (λ xs. stated ++ xs) (before (Some x) rest)

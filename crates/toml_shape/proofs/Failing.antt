@@ -6,7 +6,7 @@ use Rattle.toml.specs.Data.{Data, Items, item}
 use Rattle.toml.specs.View.{view, items_view}
 use Rattle.toml.proofs.Views.{items_view-drop}
 use Rattle.dip_lists.specs.First.{first}
-use Rattle.soc_design.specs.Reading.{failing, is_past}
+use Rattle.toml_shape.specs.Entries.{failing, is_past}
 
 head_passes : (fails : ℕ → Data → Bool) (place entry next : ℕ) (d : Data) (ds : Items) → next ≡ entry + 1 → fails place d ≡ false
     → first (failing fails (place + 1) next ds) ≡ first (failing fails place entry (item d ds))
