@@ -1,3 +1,4 @@
+pub mod Limits
 pub mod Untagged
 pub mod Worked
 pub mod Buffers

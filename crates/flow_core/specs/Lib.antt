@@ -6,6 +6,7 @@ pub mod Fragmenting
 pub mod Leaves
 pub mod Tags
 pub mod Queues
+pub mod Carried
 pub mod Network
 pub mod ExampleBeats
 pub mod Examples

@@ -4,6 +4,7 @@ ghost use Rattle.flow_core.specs.Network as spec;
 ghost use Rattle.flow_core.specs.declared.moves.Move.TheVariants.{AbsorbA, AbsorbD, Enter, ForwardA, ForwardD, Leave, Reply, Return};
 
 use crate::Move;
+use crate::carried::{carries_a, carries_d};
 use crate::queue::Queues;
 use dip_lists::Memory;
 use std::alloc::Global;
@@ -144,7 +145,7 @@ impl<'a> Network<'a> {
     {
         match edge_of(self.plan.sources.as_slice(), port) {
             None => false,
-            Some(edge) => self.a.has_room(edge),
+            Some(edge) => carries_a(self.plan, edge, &beat) && self.a.has_room(edge),
         }
     }
 
@@ -154,7 +155,7 @@ impl<'a> Network<'a> {
     {
         match edge_of(self.plan.sinks.as_slice(), port) {
             None => false,
-            Some(edge) => self.d.has_room(edge),
+            Some(edge) => carries_d(self.plan, edge, &beat) && self.d.has_room(edge),
         }
     }
 
