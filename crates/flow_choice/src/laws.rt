@@ -1,0 +1,7 @@
+ghost use Rattle.flow_choice.specs.Laws.{CommuteLaw};
+
+/// In every locally valid state of a sound plan, whatever the ports offer, the chosen moves of a cycle may be
+/// made in any order: each is enabled when it is made, and the state afterwards is the same.
+pub fn commute_law()
+    ensures { CommuteLaw }
+{}

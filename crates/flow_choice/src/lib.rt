@@ -1,0 +1,9 @@
+//! What a network does in one cycle: of all moves that may be made at its start the chosen ones, in their order, and
+//! that the order doesn't matter.
+#![tactic(auto)]
+
+mod laws;
+mod offers;
+
+pub use laws::commute_law;
+pub use offers::{Enters, Offers, Replies};
