@@ -9,3 +9,5 @@ pub mod Ordering
 pub mod Uses
 pub mod Choices
 pub mod Listing
+pub mod Adding
+pub mod Counts

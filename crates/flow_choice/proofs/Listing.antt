@@ -14,9 +14,10 @@ use Rattle.tl_edge.specs.SoundPlans.{IsSound}
 use Rattle.flow_core.specs.declared.moves.Move.{Move}
 use Rattle.flow_core.specs.declared.moves.Move.TheVariants.{Enter, Leave, Reply, Return, AbsorbA, AbsorbD, ForwardA, ForwardD}
 use Rattle.flow_core.specs.Network.{State, is_enabled}
+use Rattle.flow_choice.specs.declared.cycle.Among.TheVariants as Among
 use Rattle.flow_choice.specs.declared.offers.Offers.{Offers}
-use Rattle.flow_choice.specs.Turns.{next_id}
-use Rattle.flow_choice.specs.Choosing.{if_enabled, of_each, entering, replying, taking, source_moves, sink_moves, leaf_of, input_count, output_count, move_down, move_up, first_enabled, chosen_down, chosen_up, leaf_moves, chosen_moves}
+use Rattle.flow_core.specs.Turns.{leaf_of, next_id}
+use Rattle.flow_choice.specs.Choosing.{if_enabled, of_each, entering, replying, taking, source_moves, sink_moves, input_count, output_count, step_of, first_enabled, chosen_down, chosen_up, leaf_moves, chosen_moves}
 use Rattle.flow_choice.specs.Valid.{IsValid}
 use Rattle.flow_choice.proofs.Jobs.{Kind, Port, Down, Up, kind_of}
 use Rattle.flow_choice.proofs.Meeting.{FitsKinds}
@@ -215,12 +216,12 @@ module _ (s : State) (offers : Offers) where
   absorbs_d l = known_if (AtLeaf l) OnD (AbsorbD l) (record { giver = refl; taker = refl }) refl
 
   downs_known : (l o : ℕ) → Each (Known (AtLeaf l) OnA) (chosen_down s l o)
-  downs_known l o = each_map (IsSome s (move_down s l o)) (Known (AtLeaf l) OnA) (λ m h. known (AtLeaf l) OnA (move_down s l o h.0) (record { giver = refl; taker = refl }) refl m h.1)
-      (chosen_down s l o) (each_first s (move_down s l o) _)
+  downs_known l o = each_map (IsSome s (step_of (Among.Down l o (next_id (leaf_of s l))))) (Known (AtLeaf l) OnA) (λ m h. known (AtLeaf l) OnA (step_of (Among.Down l o (next_id (leaf_of s l))) h.0) (record { giver = refl; taker = refl }) refl m h.1)
+      (chosen_down s l o) (each_first s (step_of (Among.Down l o (next_id (leaf_of s l)))) _)
 
   ups_known : (l i : ℕ) → Each (Known (AtLeaf l) OnD) (chosen_up s l i)
-  ups_known l i = each_map (IsSome s (move_up l i)) (Known (AtLeaf l) OnD) (λ m h. known (AtLeaf l) OnD (move_up l i h.0) (record { giver = refl; taker = refl }) refl m h.1)
-      (chosen_up s l i) (each_first s (move_up l i) _)
+  ups_known l i = each_map (IsSome s (step_of (Among.Up l i))) (Known (AtLeaf l) OnD) (λ m h. known (AtLeaf l) OnD (step_of (Among.Up l i) h.0) (record { giver = refl; taker = refl }) refl m h.1)
+      (chosen_up s l i) (each_first s (step_of (Among.Up l i)) _)
 
   leaf_known : (l : ℕ) → Each (AtOne (AtLeaf l)) (leaf_moves s l)
   leaf_known l = each-append (AtOne (AtLeaf l)) (if_enabled s (AbsorbA l) ++ of_each (output_count s.plan l) (chosen_down s l)) (if_enabled s (AbsorbD l) ++ of_each (input_count s.plan l) (chosen_up s l))
@@ -229,7 +230,7 @@ module _ (s : State) (offers : Offers) where
 
   module _ (plan : Plan) (valid : IsValid plan s) where
     -- from two inputs to two outputs
-    two_down : (l o p : ℕ) (m n : Move) → o ≢ p → IsSome s (move_down s l o) m → IsSome s (move_down s l p) n → AreDistinct m n
+    two_down : (l o p : ℕ) (m n : Move) → o ≢ p → IsSome s (step_of (Among.Down l o (next_id (leaf_of s l)))) m → IsSome s (step_of (Among.Down l p (next_id (leaf_of s l)))) n → AreDistinct m n
     two_down l o p m n d a b =
         let apart : (k : ℕ) → In l a.0 ≡ In l b.0 → ⊥ = λ k e.
         let q : a.0 ≡ b.0 = cc in
@@ -241,7 +242,7 @@ module _ (s : State) (offers : Offers) where
           d_takers = λ t e f. none_some t None refl e;
         })
 
-    two_up : (l i j : ℕ) (m n : Move) → i ≢ j → IsSome s (move_up l i) m → IsSome s (move_up l j) n → AreDistinct m n
+    two_up : (l i j : ℕ) (m n : Move) → i ≢ j → IsSome s (step_of (Among.Up l i)) m → IsSome s (step_of (Among.Up l j)) n → AreDistinct m n
     two_up l i j m n d a b =
         let apart : (k : ℕ) → Out l a.0 ≡ Out l b.0 → ⊥ = λ k e.
         let q : a.0 ≡ b.0 = cc in
@@ -254,18 +255,18 @@ module _ (s : State) (offers : Offers) where
         })
 
     SomeDown : ℕ → Move → Type 0
-    SomeDown l m = (o : ℕ) × IsSome s (move_down s l o) m
+    SomeDown l m = (o : ℕ) × IsSome s (step_of (Among.Down l o (next_id (leaf_of s l)))) m
 
     SomeUp : ℕ → Move → Type 0
-    SomeUp l m = (i : ℕ) × IsSome s (move_up l i) m
+    SomeUp l m = (i : ℕ) × IsSome s (step_of (Among.Up l i)) m
 
     some_down : (l o : ℕ) → Each (SomeDown l) (chosen_down s l o)
     unfolding SomeDown
-    some_down l o = each_map (IsSome s (move_down s l o)) (SomeDown l) (λ m h. (o, h)) (chosen_down s l o) (each_first s (move_down s l o) _)
+    some_down l o = each_map (IsSome s (step_of (Among.Down l o (next_id (leaf_of s l))))) (SomeDown l) (λ m h. (o, h)) (chosen_down s l o) (each_first s (step_of (Among.Down l o (next_id (leaf_of s l)))) _)
 
     some_up : (l i : ℕ) → Each (SomeUp l) (chosen_up s l i)
     unfolding SomeUp
-    some_up l i = each_map (IsSome s (move_up l i)) (SomeUp l) (λ m h. (i, h)) (chosen_up s l i) (each_first s (move_up l i) _)
+    some_up l i = each_map (IsSome s (step_of (Among.Up l i))) (SomeUp l) (λ m h. (i, h)) (chosen_up s l i) (each_first s (step_of (Among.Up l i)) _)
 
     absorb_or_down : (l : ℕ) (m n : Move) → Is s (AbsorbA l) m → SomeDown l n → AreDistinct m n
     unfolding SomeDown
@@ -284,10 +285,10 @@ module _ (s : State) (offers : Offers) where
         (λ m n a d. channels m n a.0 d.0)
         (pairs-append AreDistinct (Is s (AbsorbA l)) (SomeDown l) (if_enabled s (AbsorbA l)) (of_each (output_count s.plan l) (chosen_down s l)) (each_if s (AbsorbA l)) (each_flat (SomeDown l) (chosen_down s l) (some_down l) 0 (output_count s.plan l)) (absorb_or_down l)
         (pairs_if AreDistinct s (AbsorbA l))
-        (pairs_flat AreDistinct (λ o. IsSome s (move_down s l o)) (chosen_down s l) (λ o. each_first s (move_down s l o) _) (λ o. pairs_first AreDistinct s (move_down s l o) _) (two_down l) 0 (output_count s.plan l)))
+        (pairs_flat AreDistinct (λ o. IsSome s (step_of (Among.Down l o (next_id (leaf_of s l))))) (chosen_down s l) (λ o. each_first s (step_of (Among.Down l o (next_id (leaf_of s l)))) _) (λ o. pairs_first AreDistinct s (step_of (Among.Down l o (next_id (leaf_of s l)))) _) (two_down l) 0 (output_count s.plan l)))
         (pairs-append AreDistinct (Is s (AbsorbD l)) (SomeUp l) (if_enabled s (AbsorbD l)) (of_each (input_count s.plan l) (chosen_up s l)) (each_if s (AbsorbD l)) (each_flat (SomeUp l) (chosen_up s l) (some_up l) 0 (input_count s.plan l)) (absorb_or_up l)
         (pairs_if AreDistinct s (AbsorbD l))
-        (pairs_flat AreDistinct (λ i. IsSome s (move_up l i)) (chosen_up s l) (λ i. each_first s (move_up l i) _) (λ i. pairs_first AreDistinct s (move_up l i) _) (two_up l) 0 (input_count s.plan l)))
+        (pairs_flat AreDistinct (λ i. IsSome s (step_of (Among.Up l i))) (chosen_up s l) (λ i. each_first s (step_of (Among.Up l i)) _) (λ i. pairs_first AreDistinct s (step_of (Among.Up l i)) _) (two_up l) 0 (input_count s.plan l)))
 
     -- ---- all of them
 

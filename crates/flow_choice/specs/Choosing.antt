@@ -14,15 +14,11 @@ use Rattle.flow_core.specs.Leaves.{LeafState}
 use Rattle.flow_core.specs.Leaves.LeafState.{BufferState}
 use Rattle.flow_core.specs.Tags.{Held}
 use Rattle.flow_core.specs.Network.{State, is_enabled, state_after}
+use Rattle.flow_core.specs.Turns.{leaf_of, turn_down, turn_up, next_id}
+use Rattle.flow_choice.specs.declared.cycle.Among.{Among}
+use Rattle.flow_choice.specs.declared.cycle.Among.TheVariants.{Down, Up}
 use Rattle.flow_choice.specs.declared.offers.Offers.{Offers}
-use Rattle.flow_choice.specs.Turns.{in_turn, turn_down, turn_up, next_id}
-
--- the offers are those of a plan's ports
-pub record AreOffersOf (plan : Plan) (offers : Offers) : Type 0 where
-  pub enter : length offers.enter ≡ length plan.sources
-  pub take_d : length offers.take_d ≡ length plan.sources
-  pub take_a : length offers.take_a ≡ length plan.sinks
-  pub reply : length offers.reply ≡ length plan.sinks
+use Rattle.flow_choice.specs.Turns.{in_turn}
 
 -- a move, where it may be made
 abbrev pub if_enabled : State → Move → List Move
@@ -44,6 +40,10 @@ abbrev pub replying : State → ℕ → Option (DBeat × Tag) → List Move
 replying state port None = []
 replying state port (Some beat) = if_enabled state (Reply port beat.0 beat.1)
 
+-- a port takes, by its number; one of which nothing is said doesn't
+abbrev pub flag_at : List Bool → ℕ → Bool
+flag_at takes port = get_or takes port false
+
 -- what a port takes, where it takes
 abbrev pub taking : State → Move → Bool → List Move
 taking state move takes = cond takes (if_enabled state move) []
@@ -52,19 +52,15 @@ taking state move takes = cond takes (if_enabled state move) []
 abbrev pub source_moves : State → Offers → ℕ → List Move
 source_moves state offers port =
     entering state port (get_or offers.enter port None)
-    ++ taking state (Return port) (get_or offers.take_d port false)
+    ++ taking state (Return port) (flag_at offers.take_d port)
 
 -- of a sink port: what leaves, then what is replied
 abbrev pub sink_moves : State → Offers → ℕ → List Move
 sink_moves state offers port =
-    taking state (Leave port) (get_or offers.take_a port false)
+    taking state (Leave port) (flag_at offers.take_a port)
     ++ replying state port (get_or offers.reply port None)
 
 -- ---- leaves
-
--- the state of a leaf by its number
-abbrev pub leaf_of : State → ℕ → LeafState
-leaf_of state leaf = option_map_or (λ (held : Held). held.leaf) (slice_get state.leaves leaf) BufferState
 
 -- how many inputs a leaf of a plan has
 abbrev pub input_count : Plan → ℕ → ℕ
@@ -74,13 +70,10 @@ input_count plan leaf = option_map_or (λ (at : Leaf). length at.ins) (slice_get
 abbrev pub output_count : Plan → ℕ → ℕ
 output_count plan leaf = option_map_or (λ (at : Leaf). length at.outs) (slice_get plan.leaves leaf) 0
 
--- the move to an output from an input
-abbrev pub move_down : State → ℕ → ℕ → ℕ → Move
-move_down state leaf output input = ForwardA leaf input output (next_id (leaf_of state leaf))
-
--- the move to an input from an output
-abbrev pub move_up : ℕ → ℕ → ℕ → Move
-move_up leaf input output = ForwardD leaf input output
+-- a move to an output from each input, or to an input from each output, by the number of that one
+abbrev pub step_of : Among → ℕ → Move
+step_of (Down leaf output id) number = ForwardA leaf number output id
+step_of (Up leaf input) number = ForwardD leaf input number
 
 -- the first move in turn that may be made
 abbrev pub first_enabled : State → (ℕ → Move) → List ℕ → List Move
@@ -90,30 +83,41 @@ first_enabled state move turns =
 -- to an output: from the first input in turn from which a beat may go there
 abbrev pub chosen_down : State → ℕ → ℕ → List Move
 chosen_down state leaf output =
-    first_enabled state (move_down state leaf output)
+    first_enabled state (step_of (Down leaf output (next_id (leaf_of state leaf))))
     (in_turn state.plan.policy (turn_down (leaf_of state leaf) output) (input_count state.plan leaf))
 
 -- to an input: from the first output in turn from which a beat may go there
 abbrev pub chosen_up : State → ℕ → ℕ → List Move
 chosen_up state leaf input =
-    first_enabled state (move_up leaf input)
+    first_enabled state (step_of (Up leaf input))
     (in_turn state.plan.policy (turn_up (leaf_of state leaf) input) (output_count state.plan leaf))
 
--- of a leaf: on channel A by output, then on channel D by input; one that takes a beat without putting one stands
--- where its forward would
+-- of a leaf on channel A: by output; where it takes a beat without putting one, that stands first
+abbrev pub leaf_moves_a : State → ℕ → List Move
+leaf_moves_a state leaf =
+    if_enabled state (AbsorbA leaf) ++ of_each (output_count state.plan leaf) (chosen_down state leaf)
+
+-- of a leaf on channel D: by input
+abbrev pub leaf_moves_d : State → ℕ → List Move
+leaf_moves_d state leaf =
+    if_enabled state (AbsorbD leaf) ++ of_each (input_count state.plan leaf) (chosen_up state leaf)
+
+-- of a leaf: those on channel A, then those on channel D
 abbrev pub leaf_moves : State → ℕ → List Move
-leaf_moves state leaf =
-    (if_enabled state (AbsorbA leaf) ++ of_each (output_count state.plan leaf) (chosen_down state leaf))
-    ++ (if_enabled state (AbsorbD leaf) ++ of_each (input_count state.plan leaf) (chosen_up state leaf))
+leaf_moves state leaf = leaf_moves_a state leaf ++ leaf_moves_d state leaf
 
 -- ---- the cycle
 
--- the chosen moves: of source ports, of sink ports, and of leaves
+-- of all ports: of the source ports in order, then of the sink ports
+abbrev pub port_moves : State → Offers → List Move
+port_moves state offers =
+    of_each (length state.plan.sources) (source_moves state offers)
+    ++ of_each (length state.plan.sinks) (sink_moves state offers)
+
+-- the chosen moves: of the ports, then of the leaves in order
 abbrev pub chosen_moves : State → Offers → List Move
 chosen_moves state offers =
-    (of_each (length state.plan.sources) (source_moves state offers)
-    ++ of_each (length state.plan.sinks) (sink_moves state offers))
-    ++ of_each (length state.plan.leaves) (leaf_moves state)
+    port_moves state offers ++ of_each (length state.plan.leaves) (leaf_moves state)
 
 -- the state after some moves, one after another
 abbrev pub state_after_moves : State → List Move → State

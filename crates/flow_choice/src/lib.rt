@@ -2,8 +2,10 @@
 //! that the order doesn't matter.
 #![tactic(auto)]
 
+mod cycle;
 mod laws;
 mod offers;
 
+pub use cycle::choose;
 pub use laws::commute_law;
 pub use offers::{Enters, Offers, Replies};

@@ -21,7 +21,7 @@ use Rattle.flow_core.specs.Queues.{queue, head_in, takes, taken, may_flow, has_r
 use Rattle.flow_core.specs.Network.{Part, edge_of_port, port_job_a, port_job_d, held_at_start, by_head, part_between, both, part_down, part_up, part_a, part_d, forwarding, absorbing, leaf_job_a, leaf_job_d, may_do, is_enabled, done, state_after}
 use Rattle.flow_core.specs.Built.{IsBuilt, network, pass_edges, pass_edges_back, may_pass, passed}
 
-buffer_held : Held
+unfoldable pub buffer_held : Held
 buffer_held = record { leaf = BufferState; tag = no_tag }
 
 -- ---- the leaves
@@ -36,7 +36,7 @@ buffer_start : (plan : Plan) (leaf : Leaf) → leaf.template ≡ Buffer → held
 unfolding buffer_held
 buffer_start plan leaf e = ap (λ s. record { leaf = s; tag = no_tag }) (started leaf.template e leaf.args _ _)
 
-held_get : (plan : Plan) (leaves : List Leaf) (l : ℕ) → All (λ (leaf : Leaf). leaf.template ≡ Buffer) leaves
+pub held_get : (plan : Plan) (leaves : List Leaf) (l : ℕ) → All (λ (leaf : Leaf). leaf.template ≡ Buffer) leaves
     → slice_get (map (held_at_start plan) leaves) l ≡ option_map (λ (leaf : Leaf). buffer_held) (slice_get leaves l)
 held_get plan [] l h = refl
 held_get plan (x ∷ xs) zero h = ap Some (buffer_start plan x (All-head (λ (leaf : Leaf). leaf.template ≡ Buffer) x xs h))

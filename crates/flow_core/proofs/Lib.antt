@@ -4,3 +4,4 @@ pub mod Worked
 pub mod Buffers
 pub mod Runs
 pub mod WorkedMoves
+pub mod Unchosen

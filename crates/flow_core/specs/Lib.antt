@@ -13,3 +13,4 @@ pub mod Examples
 pub mod Built
 pub mod ExampleMoves
 pub mod Shapes
+pub mod Turns

@@ -1,6 +1,7 @@
 ghost use Rattle.std.specs.Prelude.{◌≡◌, IsTrue, IfOk};
 ghost use Rattle.flow_core.specs.Built.{pass_edges, pass_edges_back, IsBuilt};
 ghost use Rattle.flow_core.specs.Network as spec;
+ghost use Rattle.flow_core.specs.Turns as turns;
 ghost use Rattle.flow_core.specs.declared.moves.Move.TheVariants.{AbsorbA, AbsorbD, Enter, ForwardA, ForwardD, Leave, Reply, Return};
 
 use crate::Move;
@@ -311,5 +312,38 @@ impl<'a> Network<'a> {
                 output,
             } => self.forward_d(leaf, input, output),
         }
+    }
+}
+
+impl<'a> Network<'a> {
+    /// The plan of the network.
+    pub fn plan(&self) -> &Plan
+        ensures { result.now ≡ self.now.plan }
+    {
+        self.plan
+    }
+
+    /// Which input's turn is next at an output of a leaf; 0 where the leaf has no choice among inputs.
+    pub fn turn_down(&self, leaf: u32, output: u32) -> usize
+        ensures { result ≡ turns.turn_down (turns.leaf_of self.now leaf) output }
+    {
+        let _ = &self.plan;
+        0
+    }
+
+    /// Which output's turn is next at an input of a leaf; 0 where the leaf has no choice among outputs.
+    pub fn turn_up(&self, leaf: u32, input: u32) -> usize
+        ensures { result ≡ turns.turn_up (turns.leaf_of self.now leaf) input }
+    {
+        let _ = &self.plan;
+        0
+    }
+
+    /// The new id of the next beat of a request at a leaf; 0 where the leaf has no choice of an id.
+    pub fn next_id(&self, leaf: u32) -> u32
+        ensures { result ≡ turns.next_id (turns.leaf_of self.now leaf) }
+    {
+        let _ = &self.plan;
+        0
     }
 }
