@@ -11,3 +11,4 @@ pub mod Choices
 pub mod Listing
 pub mod Adding
 pub mod Counts
+pub mod Worked

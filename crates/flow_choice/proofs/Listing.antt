@@ -16,8 +16,8 @@ use Rattle.flow_core.specs.declared.moves.Move.TheVariants.{Enter, Leave, Reply,
 use Rattle.flow_core.specs.Network.{State, is_enabled}
 use Rattle.flow_choice.specs.declared.cycle.Among.TheVariants as Among
 use Rattle.flow_choice.specs.declared.offers.Offers.{Offers}
-use Rattle.flow_core.specs.Turns.{leaf_of, next_id}
-use Rattle.flow_choice.specs.Choosing.{if_enabled, of_each, entering, replying, taking, source_moves, sink_moves, input_count, output_count, step_of, first_enabled, chosen_down, chosen_up, leaf_moves, chosen_moves}
+use Rattle.flow_core.specs.Turns.{leaf_state, next_id}
+use Rattle.flow_choice.specs.Choosing.{if_enabled, of_each, entering, replying, taking, source_moves, sink_moves, input_count, output_count, choice_of, first_enabled, chosen_down, chosen_up, leaf_moves, chosen_moves}
 use Rattle.flow_choice.specs.Valid.{IsValid}
 use Rattle.flow_choice.proofs.Jobs.{Kind, Port, Down, Up, kind_of}
 use Rattle.flow_choice.proofs.Meeting.{FitsKinds}
@@ -216,12 +216,12 @@ module _ (s : State) (offers : Offers) where
   absorbs_d l = known_if (AtLeaf l) OnD (AbsorbD l) (record { giver = refl; taker = refl }) refl
 
   downs_known : (l o : ℕ) → Each (Known (AtLeaf l) OnA) (chosen_down s l o)
-  downs_known l o = each_map (IsSome s (step_of (Among.Down l o (next_id (leaf_of s l))))) (Known (AtLeaf l) OnA) (λ m h. known (AtLeaf l) OnA (step_of (Among.Down l o (next_id (leaf_of s l))) h.0) (record { giver = refl; taker = refl }) refl m h.1)
-      (chosen_down s l o) (each_first s (step_of (Among.Down l o (next_id (leaf_of s l)))) _)
+  downs_known l o = each_map (IsSome s (choice_of (Among.Down l o (next_id (leaf_state s l))))) (Known (AtLeaf l) OnA) (λ m h. known (AtLeaf l) OnA (choice_of (Among.Down l o (next_id (leaf_state s l))) h.0) (record { giver = refl; taker = refl }) refl m h.1)
+      (chosen_down s l o) (each_first s (choice_of (Among.Down l o (next_id (leaf_state s l)))) _)
 
   ups_known : (l i : ℕ) → Each (Known (AtLeaf l) OnD) (chosen_up s l i)
-  ups_known l i = each_map (IsSome s (step_of (Among.Up l i))) (Known (AtLeaf l) OnD) (λ m h. known (AtLeaf l) OnD (step_of (Among.Up l i) h.0) (record { giver = refl; taker = refl }) refl m h.1)
-      (chosen_up s l i) (each_first s (step_of (Among.Up l i)) _)
+  ups_known l i = each_map (IsSome s (choice_of (Among.Up l i))) (Known (AtLeaf l) OnD) (λ m h. known (AtLeaf l) OnD (choice_of (Among.Up l i) h.0) (record { giver = refl; taker = refl }) refl m h.1)
+      (chosen_up s l i) (each_first s (choice_of (Among.Up l i)) _)
 
   leaf_known : (l : ℕ) → Each (AtOne (AtLeaf l)) (leaf_moves s l)
   leaf_known l = each-append (AtOne (AtLeaf l)) (if_enabled s (AbsorbA l) ++ of_each (output_count s.plan l) (chosen_down s l)) (if_enabled s (AbsorbD l) ++ of_each (input_count s.plan l) (chosen_up s l))
@@ -230,11 +230,11 @@ module _ (s : State) (offers : Offers) where
 
   module _ (plan : Plan) (valid : IsValid plan s) where
     -- from two inputs to two outputs
-    two_down : (l o p : ℕ) (m n : Move) → o ≢ p → IsSome s (step_of (Among.Down l o (next_id (leaf_of s l)))) m → IsSome s (step_of (Among.Down l p (next_id (leaf_of s l)))) n → AreDistinct m n
+    two_down : (l o p : ℕ) (m n : Move) → o ≢ p → IsSome s (choice_of (Among.Down l o (next_id (leaf_state s l)))) m → IsSome s (choice_of (Among.Down l p (next_id (leaf_state s l)))) n → AreDistinct m n
     two_down l o p m n d a b =
         let apart : (k : ℕ) → In l a.0 ≡ In l b.0 → ⊥ = λ k e.
         let q : a.0 ≡ b.0 = cc in
-        d (one_output plan s l a.0 o (next_id (leaf_of s l)) p (next_id (leaf_of s l)) valid a.1.1 (subst (λ n. IsTrue (is_enabled s (ForwardA l n p (next_id (leaf_of s l))))) (sym q) b.1.1)) in
+        d (one_output plan s l a.0 o (next_id (leaf_state s l)) p (next_id (leaf_state s l)) valid a.1.1 (subst (λ n. IsTrue (is_enabled s (ForwardA l n p (next_id (leaf_state s l))))) (sym q) b.1.1)) in
         rw (a.1.0, b.1.0) (record {
           a_givers = λ g e f. d (let q : Out l o ≡ Out l p = same_Some _ _ (e ∙ sym f) in cc);
           a_takers = λ t e f. apart 0 (same_Some _ _ (e ∙ sym f));
@@ -242,7 +242,7 @@ module _ (s : State) (offers : Offers) where
           d_takers = λ t e f. none_some t None refl e;
         })
 
-    two_up : (l i j : ℕ) (m n : Move) → i ≢ j → IsSome s (step_of (Among.Up l i)) m → IsSome s (step_of (Among.Up l j)) n → AreDistinct m n
+    two_up : (l i j : ℕ) (m n : Move) → i ≢ j → IsSome s (choice_of (Among.Up l i)) m → IsSome s (choice_of (Among.Up l j)) n → AreDistinct m n
     two_up l i j m n d a b =
         let apart : (k : ℕ) → Out l a.0 ≡ Out l b.0 → ⊥ = λ k e.
         let q : a.0 ≡ b.0 = cc in
@@ -255,22 +255,22 @@ module _ (s : State) (offers : Offers) where
         })
 
     SomeDown : ℕ → Move → Type 0
-    SomeDown l m = (o : ℕ) × IsSome s (step_of (Among.Down l o (next_id (leaf_of s l)))) m
+    SomeDown l m = (o : ℕ) × IsSome s (choice_of (Among.Down l o (next_id (leaf_state s l)))) m
 
     SomeUp : ℕ → Move → Type 0
-    SomeUp l m = (i : ℕ) × IsSome s (step_of (Among.Up l i)) m
+    SomeUp l m = (i : ℕ) × IsSome s (choice_of (Among.Up l i)) m
 
     some_down : (l o : ℕ) → Each (SomeDown l) (chosen_down s l o)
     unfolding SomeDown
-    some_down l o = each_map (IsSome s (step_of (Among.Down l o (next_id (leaf_of s l))))) (SomeDown l) (λ m h. (o, h)) (chosen_down s l o) (each_first s (step_of (Among.Down l o (next_id (leaf_of s l)))) _)
+    some_down l o = each_map (IsSome s (choice_of (Among.Down l o (next_id (leaf_state s l))))) (SomeDown l) (λ m h. (o, h)) (chosen_down s l o) (each_first s (choice_of (Among.Down l o (next_id (leaf_state s l)))) _)
 
     some_up : (l i : ℕ) → Each (SomeUp l) (chosen_up s l i)
     unfolding SomeUp
-    some_up l i = each_map (IsSome s (step_of (Among.Up l i))) (SomeUp l) (λ m h. (i, h)) (chosen_up s l i) (each_first s (step_of (Among.Up l i)) _)
+    some_up l i = each_map (IsSome s (choice_of (Among.Up l i))) (SomeUp l) (λ m h. (i, h)) (chosen_up s l i) (each_first s (choice_of (Among.Up l i)) _)
 
     absorb_or_down : (l : ℕ) (m n : Move) → Is s (AbsorbA l) m → SomeDown l n → AreDistinct m n
     unfolding SomeDown
-    absorb_or_down l m n a b = absurd (not_both_down s l b.1.0 b.0 (next_id (leaf_of s l)) a.1 b.1.1.1)
+    absorb_or_down l m n a b = absurd (not_both_down s l b.1.0 b.0 (next_id (leaf_state s l)) a.1 b.1.1.1)
 
     absorb_or_up : (l : ℕ) (m n : Move) → Is s (AbsorbD l) m → SomeUp l n → AreDistinct m n
     unfolding SomeUp
@@ -285,10 +285,10 @@ module _ (s : State) (offers : Offers) where
         (λ m n a d. channels m n a.0 d.0)
         (pairs-append AreDistinct (Is s (AbsorbA l)) (SomeDown l) (if_enabled s (AbsorbA l)) (of_each (output_count s.plan l) (chosen_down s l)) (each_if s (AbsorbA l)) (each_flat (SomeDown l) (chosen_down s l) (some_down l) 0 (output_count s.plan l)) (absorb_or_down l)
         (pairs_if AreDistinct s (AbsorbA l))
-        (pairs_flat AreDistinct (λ o. IsSome s (step_of (Among.Down l o (next_id (leaf_of s l))))) (chosen_down s l) (λ o. each_first s (step_of (Among.Down l o (next_id (leaf_of s l)))) _) (λ o. pairs_first AreDistinct s (step_of (Among.Down l o (next_id (leaf_of s l)))) _) (two_down l) 0 (output_count s.plan l)))
+        (pairs_flat AreDistinct (λ o. IsSome s (choice_of (Among.Down l o (next_id (leaf_state s l))))) (chosen_down s l) (λ o. each_first s (choice_of (Among.Down l o (next_id (leaf_state s l)))) _) (λ o. pairs_first AreDistinct s (choice_of (Among.Down l o (next_id (leaf_state s l)))) _) (two_down l) 0 (output_count s.plan l)))
         (pairs-append AreDistinct (Is s (AbsorbD l)) (SomeUp l) (if_enabled s (AbsorbD l)) (of_each (input_count s.plan l) (chosen_up s l)) (each_if s (AbsorbD l)) (each_flat (SomeUp l) (chosen_up s l) (some_up l) 0 (input_count s.plan l)) (absorb_or_up l)
         (pairs_if AreDistinct s (AbsorbD l))
-        (pairs_flat AreDistinct (λ i. IsSome s (step_of (Among.Up l i))) (chosen_up s l) (λ i. each_first s (step_of (Among.Up l i)) _) (λ i. pairs_first AreDistinct s (step_of (Among.Up l i)) _) (two_up l) 0 (input_count s.plan l)))
+        (pairs_flat AreDistinct (λ i. IsSome s (choice_of (Among.Up l i))) (chosen_up s l) (λ i. each_first s (choice_of (Among.Up l i)) _) (λ i. pairs_first AreDistinct s (choice_of (Among.Up l i)) _) (two_up l) 0 (input_count s.plan l)))
 
     -- ---- all of them
 

@@ -14,7 +14,7 @@ use Rattle.flow_core.specs.Leaves.{LeafState}
 use Rattle.flow_core.specs.Leaves.LeafState.{BufferState}
 use Rattle.flow_core.specs.Tags.{Held}
 use Rattle.flow_core.specs.Network.{State, is_enabled, state_after}
-use Rattle.flow_core.specs.Turns.{leaf_of, turn_down, turn_up, next_id}
+use Rattle.flow_core.specs.Turns.{leaf_state, turn_down, turn_up, next_id}
 use Rattle.flow_choice.specs.declared.cycle.Among.{Among}
 use Rattle.flow_choice.specs.declared.cycle.Among.TheVariants.{Down, Up}
 use Rattle.flow_choice.specs.declared.offers.Offers.{Offers}
@@ -71,9 +71,9 @@ abbrev pub output_count : Plan → ℕ → ℕ
 output_count plan leaf = option_map_or (λ (at : Leaf). length at.outs) (slice_get plan.leaves leaf) 0
 
 -- a move to an output from each input, or to an input from each output, by the number of that one
-abbrev pub step_of : Among → ℕ → Move
-step_of (Down leaf output id) number = ForwardA leaf number output id
-step_of (Up leaf input) number = ForwardD leaf input number
+abbrev pub choice_of : Among → ℕ → Move
+choice_of (Down leaf output id) number = ForwardA leaf number output id
+choice_of (Up leaf input) number = ForwardD leaf input number
 
 -- the first move in turn that may be made
 abbrev pub first_enabled : State → (ℕ → Move) → List ℕ → List Move
@@ -83,14 +83,14 @@ first_enabled state move turns =
 -- to an output: from the first input in turn from which a beat may go there
 abbrev pub chosen_down : State → ℕ → ℕ → List Move
 chosen_down state leaf output =
-    first_enabled state (step_of (Down leaf output (next_id (leaf_of state leaf))))
-    (in_turn state.plan.policy (turn_down (leaf_of state leaf) output) (input_count state.plan leaf))
+    first_enabled state (choice_of (Down leaf output (next_id (leaf_state state leaf))))
+    (in_turn state.plan.policy (turn_down (leaf_state state leaf) output) (input_count state.plan leaf))
 
 -- to an input: from the first output in turn from which a beat may go there
 abbrev pub chosen_up : State → ℕ → ℕ → List Move
 chosen_up state leaf input =
-    first_enabled state (step_of (Up leaf input))
-    (in_turn state.plan.policy (turn_up (leaf_of state leaf) input) (output_count state.plan leaf))
+    first_enabled state (choice_of (Up leaf input))
+    (in_turn state.plan.policy (turn_up (leaf_state state leaf) input) (output_count state.plan leaf))
 
 -- of a leaf on channel A: by output; where it takes a beat without putting one, that stands first
 abbrev pub leaf_moves_a : State → ℕ → List Move

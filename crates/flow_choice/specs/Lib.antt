@@ -2,3 +2,4 @@ pub mod Turns
 pub mod Choosing
 pub mod Valid
 pub mod Laws
+pub mod Examples

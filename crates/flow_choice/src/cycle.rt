@@ -24,7 +24,7 @@ pub enum Among {
 impl Among {
     // The move from the input, or from the output, with a number.
     fn step(self, number: u32) -> Move
-        ensures { result ≡ spec.step_of self number }
+        ensures { result ≡ spec.choice_of self number }
     {
         match self {
             Among::Down { leaf, output, id } => Move::ForwardA {
@@ -136,7 +136,8 @@ fn add_sink(list: &mut Moves, network: &Network, offers: &Offers, port: u32) -> 
 // The first number, from one up to another, whose move may be made.
 fn first_between(network: &Network, among: Among, from: u32, to: u32) -> Option<u32>
     requires { from ≤ to }
-    ensures { result ≡ find (λ number. net.is_enabled network.now (spec.step_of among number)) (range_with_len from (to - from)) }
+    ensures { result ≡ find (λ number. net.is_enabled network.now (spec.choice_of among number))
+        (range_with_len from (to - from)) }
 {
     for number in from..to {
         if network.enabled(&among.step(number)) {
@@ -150,7 +151,7 @@ fn first_between(network: &Network, among: Among, from: u32, to: u32) -> Option<
 #[tactic(auto, using(crate::proofs::Adding::going_round))]
 fn first_going_round(network: &Network, among: Among, from: u32, count: u32) -> Option<u32>
     requires { from ≤ count }
-    ensures { result ≡ find (λ number. net.is_enabled network.now (spec.step_of among number))
+    ensures { result ≡ find (λ number. net.is_enabled network.now (spec.choice_of among number))
         (range_with_len from (count - from) ++ range_with_len 0 from) }
 {
     let later = first_between(network, among, from, count);
@@ -172,7 +173,7 @@ fn first_asked(next: usize, count: u32) -> u32
 // The first number in turn whose move may be made.
 #[tactic(auto, using(crate::proofs::Adding::from_lowest, crate::proofs::Adding::from_turn))]
 fn first_in_turn(network: &Network, among: Among, next: usize, count: u32) -> Option<u32>
-    ensures { result ≡ find (λ number. net.is_enabled network.now (spec.step_of among number))
+    ensures { result ≡ find (λ number. net.is_enabled network.now (spec.choice_of among number))
         (in_turn network.now.plan.policy next count) }
 {
     match network.plan().policy {
@@ -189,7 +190,7 @@ fn add_first(
     next: usize,
     count: u32,
 ) -> Result<(), Memory>
-    ensures { OnOk result (list.new ≡ list.old ++ spec.first_enabled network.now (spec.step_of among)
+    ensures { OnOk result (list.new ≡ list.old ++ spec.first_enabled network.now (spec.choice_of among)
         (in_turn network.now.plan.policy next count)) }
 {
     match first_in_turn(network, among, next, count) {

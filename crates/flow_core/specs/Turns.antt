@@ -10,8 +10,8 @@ use Rattle.flow_core.specs.Tags.{Held}
 use Rattle.flow_core.specs.Network.{State}
 
 -- the state of a leaf by its number
-abbrev pub leaf_of : State → ℕ → LeafState
-leaf_of state leaf = option_map_or (λ (held : Held). held.leaf) (slice_get state.leaves leaf) BufferState
+abbrev pub leaf_state : State → ℕ → LeafState
+leaf_state state leaf = option_map_or (λ (held : Held). held.leaf) (slice_get state.leaves leaf) BufferState
 
 -- whose turn is next at a gate by its number
 abbrev pub turn_of : List Gate → ℕ → ℕ
@@ -41,6 +41,7 @@ lowest_free olds = unwrap_or (find (is_free olds) (range_with_len 0 (length olds
 abbrev pub next_id : LeafState → ℕ
 next_id BufferState = 0
 next_id (XbarState bar gates) = 0
-next_id (ShrinkerState width slots) = option_map_or (λ (asking : Asking). asking.id) slots.asking (lowest_free slots.olds)
+next_id (ShrinkerState width slots) =
+    option_map_or (λ (asking : Asking). asking.id) slots.asking (lowest_free slots.olds)
 next_id (WidthState widths widget) = 0
 next_id (FragmenterState knife hand) = 0

@@ -325,7 +325,7 @@ impl<'a> Network<'a> {
 
     /// Which input's turn is next at an output of a leaf; 0 where the leaf has no choice among inputs.
     pub fn turn_down(&self, leaf: u32, output: u32) -> usize
-        ensures { result ≡ turns.turn_down (turns.leaf_of self.now leaf) output }
+        ensures { result ≡ turns.turn_down (turns.leaf_state self.now leaf) output }
     {
         let _ = &self.plan;
         0
@@ -333,7 +333,7 @@ impl<'a> Network<'a> {
 
     /// Which output's turn is next at an input of a leaf; 0 where the leaf has no choice among outputs.
     pub fn turn_up(&self, leaf: u32, input: u32) -> usize
-        ensures { result ≡ turns.turn_up (turns.leaf_of self.now leaf) input }
+        ensures { result ≡ turns.turn_up (turns.leaf_state self.now leaf) input }
     {
         let _ = &self.plan;
         0
@@ -341,7 +341,7 @@ impl<'a> Network<'a> {
 
     /// The new id of the next beat of a request at a leaf; 0 where the leaf has no choice of an id.
     pub fn next_id(&self, leaf: u32) -> u32
-        ensures { result ≡ turns.next_id (turns.leaf_of self.now leaf) }
+        ensures { result ≡ turns.next_id (turns.leaf_state self.now leaf) }
     {
         let _ = &self.plan;
         0

@@ -1,0 +1,11 @@
+-- The worked examples, computed.
+use Rattle.std.proofs.Common.{refl}
+use Rattle.flow_core.specs.Carried.{carries_a, carries_d}
+use Rattle.flow_choice.specs.Examples.{TurnsExample, CycleExample}
+
+pub turns_example : TurnsExample
+turns_example = record { lowest = refl; round = refl; first = refl; last = refl; free = refl; begins = refl; goes_on = refl }
+
+pub cycle_example : CycleExample
+unfolding carries_a carries_d
+cycle_example = record { lowest = refl; round = refl; held = refl }
