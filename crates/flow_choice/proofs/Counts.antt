@@ -1,27 +1,19 @@
 -- A sound plan has few ports and leaves, and each leaf few inputs and outputs.
-use Rattle.std.proofs.Common.{◌≡◌, ◌≢◌, ◌≤◌, ◌<◌, ℕ, List, length, get_or, Option, Some, None, refl, sym, ap, ◌∙◌, subst, arith, slice_get, All, eqb}
+use Rattle.std.proofs.Common.{◌≡◌, ◌≢◌, ◌≤◌, ◌<◌, ◌^◌, ℕ, List, length, get_or, Option, Some, None, refl, sym, ap, ◌∙◌, subst, arith, slice_get, All, eqb}
 use Rattle.std.specs.Prelude.{AllPairs, Contains}
 use Rattle.std.specs.List.{IsDistinct}
 use Rattle.std.proofs.lemmas.Bool.Decides.{Decides-eqb}
 use Rattle.std.proofs.lemmas.Map.Made.{IsDistinct-from_AllPairs}
-use Rattle.std.proofs.lemmas.Option.{slice_get-get_or}
+use Rattle.std.proofs.lemmas.Option.{slice_get-get_or, get_or_from_slice_get, slice_get_within}
 use Rattle.tl_edge.specs.declared.plan.Leaf.{Leaf}
 use Rattle.tl_edge.specs.declared.plan.Plan.{Plan}
 use Rattle.tl_edge.specs.Plans.{Giver, GivesTo, Taker, TakesFrom}
 use Rattle.tl_edge.specs.Plans.Giver.{Out}
 use Rattle.tl_edge.specs.Plans.Taker.{In}
 use Rattle.tl_edge.specs.SoundPlans.{IsSound}
+use Rattle.flow_choice.specs.Numbered.{IsNumbered, NumberedLaw}
 use Rattle.tl_edge.proofs.Ways.{ends_law}
 use Rattle.tl_edge.proofs.Once.{few_distinct}
-
-pub few_sources : (plan : Plan) → IsSound plan → length plan.sources ≤ 1024
-few_sources plan sound = ends_law.sources plan sound
-
-pub few_sinks : (plan : Plan) → IsSound plan → length plan.sinks ≤ 1024
-few_sinks plan sound = ends_law.sinks plan sound
-
-pub few_leaves : (plan : Plan) → IsSound plan → length plan.leaves ≤ 1024
-few_leaves plan sound = ends_law.leaves plan sound
 
 -- what stands at two places of a list that has no number twice
 apart : (xs : List ℕ) → ((p q e : ℕ) → slice_get xs p ≡ Some e → slice_get xs q ≡ Some e → p ≡ q) → AllPairs (λ x y. x ≢ y) xs
@@ -35,8 +27,8 @@ few : (xs : List ℕ) (bound : ℕ) → ((p q e : ℕ) → slice_get xs p ≡ So
 few xs bound once below =
     few_distinct xs bound (IsDistinct-from_AllPairs Decides-eqb xs (apart xs once)) (λ p d within. below p (get_or xs p d) (slice_get-get_or xs p d within))
 
-pub few_inputs : (plan : Plan) (l : ℕ) (at : Leaf) → IsSound plan → slice_get plan.leaves l ≡ Some at → length at.ins ≤ 1024
-few_inputs plan l at sound is =
+inputs_sound : (plan : Plan) (l : ℕ) (at : Leaf) → IsSound plan → slice_get plan.leaves l ≡ Some at → length at.ins ≤ 1024
+inputs_sound plan l at sound is =
     let all : length at.ins ≤ length plan.edges = few at.ins (length plan.edges)
     (λ p q e x y.
     let t : TakesFrom plan e (In l p) = (at, is, x) in
@@ -48,8 +40,8 @@ few_inputs plan l at sound is =
     let some = sound.few_edges in
     omega arith
 
-pub few_outputs : (plan : Plan) (l : ℕ) (at : Leaf) → IsSound plan → slice_get plan.leaves l ≡ Some at → length at.outs ≤ 1024
-few_outputs plan l at sound is =
+outputs_sound : (plan : Plan) (l : ℕ) (at : Leaf) → IsSound plan → slice_get plan.leaves l ≡ Some at → length at.outs ≤ 1024
+outputs_sound plan l at sound is =
     let all : length at.outs ≤ length plan.edges = few at.outs (length plan.edges)
     (λ p q e x y.
     let t : GivesTo plan e (Out l p) = (at, is, x) in
@@ -60,3 +52,38 @@ few_outputs plan l at sound is =
     (λ p e x. ends_law.given plan e (Out l p) sound (at, is, x)) in
     let some = sound.few_edges in
     omega arith
+
+each_at : (P : Leaf → Type 0) (leaves : List Leaf) → ((l : ℕ) (at : Leaf) → slice_get leaves l ≡ Some at → P at) → All P leaves
+each_at P leaves h l d within = h l (get_or leaves l d) (slice_get-get_or leaves l d within)
+
+pub numbered_law : NumberedLaw
+numbered_law plan sound =
+    let few : 1024 < 2 ^ 32 = omega arith in
+    let sources = ends_law.sources plan sound in
+    let sinks = ends_law.sinks plan sound in
+    let leaves = ends_law.leaves plan sound in
+    record {
+      sources = omega arith;
+      sinks = omega arith;
+      leaves = omega arith;
+      inputs = each_at (λ leaf. length leaf.ins < 2 ^ 32) plan.leaves (λ l at is. let n = inputs_sound plan l at sound is in omega arith);
+      outputs = each_at (λ leaf. length leaf.outs < 2 ^ 32) plan.leaves (λ l at is. let n = outputs_sound plan l at sound is in omega arith);
+    }
+
+pub few_sources : (plan : Plan) → IsNumbered plan → length plan.sources < 2 ^ 32
+few_sources plan numbered = numbered.sources
+
+pub few_sinks : (plan : Plan) → IsNumbered plan → length plan.sinks < 2 ^ 32
+few_sinks plan numbered = numbered.sinks
+
+pub few_leaves : (plan : Plan) → IsNumbered plan → length plan.leaves < 2 ^ 32
+few_leaves plan numbered = numbered.leaves
+
+at_item : (P : Leaf → Type 0) (leaves : List Leaf) (l : ℕ) (at : Leaf) → All P leaves → slice_get leaves l ≡ Some at → P at
+at_item P leaves l at all is = subst P (get_or_from_slice_get leaves l at at is) (all l at (slice_get_within leaves l at is))
+
+pub few_inputs : (plan : Plan) (l : ℕ) (at : Leaf) → IsNumbered plan → slice_get plan.leaves l ≡ Some at → length at.ins < 2 ^ 32
+few_inputs plan l at numbered is = at_item (λ leaf. length leaf.ins < 2 ^ 32) plan.leaves l at numbered.inputs is
+
+pub few_outputs : (plan : Plan) (l : ℕ) (at : Leaf) → IsNumbered plan → slice_get plan.leaves l ≡ Some at → length at.outs < 2 ^ 32
+few_outputs plan l at numbered is = at_item (λ leaf. length leaf.outs < 2 ^ 32) plan.leaves l at numbered.outputs is

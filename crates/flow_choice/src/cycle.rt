@@ -1,6 +1,6 @@
 ghost use Rattle.std.specs.Prelude.{◌≡◌, ◌++◌, ◌-◌, ◌≤◌, length, find, get_or, min, None, OnOk, OnErr};
 ghost use Rattle.std.specs.List.{range_with_len};
-ghost use Rattle.tl_edge.specs.SoundPlans.{IsSound};
+ghost use Rattle.flow_choice.specs.Numbered.{IsNumbered};
 ghost use Rattle.flow_core.specs.Network as net;
 ghost use Rattle.flow_choice.specs.Choosing as spec;
 ghost use Rattle.flow_choice.specs.Turns.{in_turn};
@@ -205,7 +205,7 @@ fn add_first(
 // How many inputs a leaf has.
 #[tactic(auto, using(crate::proofs::Counts::few_inputs))]
 fn input_count(network: &Network, leaf: u32) -> u32
-    requires { IsSound network.now.plan }
+    requires { IsNumbered network.now.plan }
     ensures { result ≡ spec.input_count network.now.plan leaf }
 {
     match network.plan().leaves.get(leaf as usize) {
@@ -217,7 +217,7 @@ fn input_count(network: &Network, leaf: u32) -> u32
 // How many outputs a leaf has.
 #[tactic(auto, using(crate::proofs::Counts::few_outputs))]
 fn output_count(network: &Network, leaf: u32) -> u32
-    requires { IsSound network.now.plan }
+    requires { IsNumbered network.now.plan }
     ensures { result ≡ spec.output_count network.now.plan leaf }
 {
     match network.plan().leaves.get(leaf as usize) {
@@ -229,7 +229,7 @@ fn output_count(network: &Network, leaf: u32) -> u32
 // How many source ports there are.
 #[tactic(auto, using(crate::proofs::Counts::few_sources))]
 fn source_count(network: &Network) -> u32
-    requires { IsSound network.now.plan }
+    requires { IsNumbered network.now.plan }
     ensures { result ≡ length network.now.plan.sources }
 {
     network.plan().sources.len() as u32
@@ -238,7 +238,7 @@ fn source_count(network: &Network) -> u32
 // How many sink ports there are.
 #[tactic(auto, using(crate::proofs::Counts::few_sinks))]
 fn sink_count(network: &Network) -> u32
-    requires { IsSound network.now.plan }
+    requires { IsNumbered network.now.plan }
     ensures { result ≡ length network.now.plan.sinks }
 {
     network.plan().sinks.len() as u32
@@ -247,7 +247,7 @@ fn sink_count(network: &Network) -> u32
 // How many leaves there are.
 #[tactic(auto, using(crate::proofs::Counts::few_leaves))]
 fn leaf_count(network: &Network) -> u32
-    requires { IsSound network.now.plan }
+    requires { IsNumbered network.now.plan }
     ensures { result ≡ length network.now.plan.leaves }
 {
     network.plan().leaves.len() as u32
@@ -255,7 +255,7 @@ fn leaf_count(network: &Network) -> u32
 
 // Adds the moves of a leaf to its outputs.
 fn add_downs(list: &mut Moves, network: &Network, leaf: u32) -> Result<(), Memory>
-    requires { IsSound network.now.plan }
+    requires { IsNumbered network.now.plan }
     ensures { OnOk result (list.new ≡ list.old
         ++ spec.of_each (spec.output_count network.now.plan leaf) (spec.chosen_down network.now leaf)) }
 {
@@ -277,7 +277,7 @@ fn add_downs(list: &mut Moves, network: &Network, leaf: u32) -> Result<(), Memor
 
 // Adds the moves of a leaf to its inputs.
 fn add_ups(list: &mut Moves, network: &Network, leaf: u32) -> Result<(), Memory>
-    requires { IsSound network.now.plan }
+    requires { IsNumbered network.now.plan }
     ensures { OnOk result (list.new ≡ list.old
         ++ spec.of_each (spec.input_count network.now.plan leaf) (spec.chosen_up network.now leaf)) }
 {
@@ -293,7 +293,7 @@ fn add_ups(list: &mut Moves, network: &Network, leaf: u32) -> Result<(), Memory>
 // Adds the moves of a leaf on channel A.
 #[tactic(auto, using(crate::proofs::Adding::both_added))]
 fn add_leaf_a(list: &mut Moves, network: &Network, leaf: u32) -> Result<(), Memory>
-    requires { IsSound network.now.plan }
+    requires { IsNumbered network.now.plan }
     ensures { OnOk result (list.new ≡ list.old ++ spec.leaf_moves_a network.now leaf) }
 {
     add(list, network, Move::AbsorbA { leaf })?;
@@ -303,7 +303,7 @@ fn add_leaf_a(list: &mut Moves, network: &Network, leaf: u32) -> Result<(), Memo
 // Adds the moves of a leaf on channel D.
 #[tactic(auto, using(crate::proofs::Adding::both_added))]
 fn add_leaf_d(list: &mut Moves, network: &Network, leaf: u32) -> Result<(), Memory>
-    requires { IsSound network.now.plan }
+    requires { IsNumbered network.now.plan }
     ensures { OnOk result (list.new ≡ list.old ++ spec.leaf_moves_d network.now leaf) }
 {
     add(list, network, Move::AbsorbD { leaf })?;
@@ -313,7 +313,7 @@ fn add_leaf_d(list: &mut Moves, network: &Network, leaf: u32) -> Result<(), Memo
 // Adds the moves of a leaf.
 #[tactic(auto, using(crate::proofs::Adding::both_added))]
 fn add_leaf(list: &mut Moves, network: &Network, leaf: u32) -> Result<(), Memory>
-    requires { IsSound network.now.plan }
+    requires { IsNumbered network.now.plan }
     ensures { OnOk result (list.new ≡ list.old ++ spec.leaf_moves network.now leaf) }
 {
     add_leaf_a(list, network, leaf)?;
@@ -322,7 +322,7 @@ fn add_leaf(list: &mut Moves, network: &Network, leaf: u32) -> Result<(), Memory
 
 // Adds the moves of all source ports.
 fn add_sources(list: &mut Moves, network: &Network, offers: &Offers) -> Result<(), Memory>
-    requires { IsSound network.now.plan }
+    requires { IsNumbered network.now.plan }
     ensures { OnOk result (list.new ≡ list.old
         ++ spec.of_each (length network.now.plan.sources) (spec.source_moves network.now offers.now)) }
 {
@@ -335,7 +335,7 @@ fn add_sources(list: &mut Moves, network: &Network, offers: &Offers) -> Result<(
 
 // Adds the moves of all sink ports.
 fn add_sinks(list: &mut Moves, network: &Network, offers: &Offers) -> Result<(), Memory>
-    requires { IsSound network.now.plan }
+    requires { IsNumbered network.now.plan }
     ensures { OnOk result (list.new ≡ list.old
         ++ spec.of_each (length network.now.plan.sinks) (spec.sink_moves network.now offers.now)) }
 {
@@ -348,7 +348,7 @@ fn add_sinks(list: &mut Moves, network: &Network, offers: &Offers) -> Result<(),
 
 // Adds the moves of all leaves.
 fn add_leaves(list: &mut Moves, network: &Network) -> Result<(), Memory>
-    requires { IsSound network.now.plan }
+    requires { IsNumbered network.now.plan }
     ensures { OnOk result (list.new ≡ list.old
         ++ spec.of_each (length network.now.plan.leaves) (spec.leaf_moves network.now)) }
 {
@@ -362,7 +362,7 @@ fn add_leaves(list: &mut Moves, network: &Network) -> Result<(), Memory>
 // Adds the moves of all ports.
 #[tactic(auto, using(crate::proofs::Adding::both_added))]
 fn add_ports(list: &mut Moves, network: &Network, offers: &Offers) -> Result<(), Memory>
-    requires { IsSound network.now.plan }
+    requires { IsNumbered network.now.plan }
     ensures { OnOk result (list.new ≡ list.old ++ spec.port_moves network.now offers.now) }
 {
     add_sources(list, network, offers)?;
@@ -382,7 +382,7 @@ pub fn choose(
     offers: &Offers,
     into: &mut Moves,
 ) -> Result<(), Memory>
-    requires { IsSound network.now.plan }
+    requires { IsNumbered network.now.plan }
     ensures ok { OnOk result (into.new ≡ spec.chosen_moves network.now offers.now) }
     ensures err { OnErr result (into.new ≡ into.old) }
 {
