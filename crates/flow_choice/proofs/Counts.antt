@@ -1,13 +1,12 @@
 -- A sound plan has few ports and leaves, and each leaf few inputs and outputs.
-use Rattle.std.proofs.Common.{◌≡◌, ◌≢◌, ◌≤◌, ◌<◌, ◌^◌, ℕ, List, length, get_or, Option, Some, None, refl, sym, ap, ◌∙◌, subst, arith, slice_get, All, eqb}
-use Rattle.std.specs.Prelude.{AllPairs, Contains}
-use Rattle.std.specs.List.{IsDistinct}
+use Rattle.std.proofs.Common.{◌≡◌, ◌≢◌, ◌≤◌, ◌<◌, ◌^◌, ℕ, List, length, get_or, Some, sym, ap, ◌∙◌, subst, arith, slice_get, All}
+use Rattle.std.specs.Prelude.{AllPairs}
 use Rattle.std.proofs.lemmas.Bool.Decides.{Decides-eqb}
 use Rattle.std.proofs.lemmas.Map.Made.{IsDistinct-from_AllPairs}
 use Rattle.std.proofs.lemmas.Option.{slice_get-get_or, get_or_from_slice_get, slice_get_within}
 use Rattle.tl_edge.specs.declared.plan.Leaf.{Leaf}
 use Rattle.tl_edge.specs.declared.plan.Plan.{Plan}
-use Rattle.tl_edge.specs.Plans.{Giver, GivesTo, Taker, TakesFrom}
+use Rattle.tl_edge.specs.Plans.{GivesTo, TakesFrom}
 use Rattle.tl_edge.specs.Plans.Giver.{Out}
 use Rattle.tl_edge.specs.Plans.Taker.{In}
 use Rattle.tl_edge.specs.SoundPlans.{IsSound}

@@ -1,6 +1,8 @@
 -- The worked examples, computed.
 use Rattle.std.proofs.Common.{refl}
+use Rattle.dip_sets.specs.Assignments.{rounded}
 use Rattle.flow_core.specs.Carried.{carries_a, carries_d}
+use Rattle.flow_choice.specs.BurstExamples.{StraightExample, BurstExample}
 use Rattle.flow_choice.specs.OrderlyExamples.{PassedExample}
 use Rattle.flow_choice.specs.Examples.{TurnsExample, CycleExample}
 
@@ -23,3 +25,11 @@ passed_example = record {
   both = refl;
   single = refl;
 }
+
+pub straight_example : StraightExample
+unfolding carries_a carries_d
+straight_example = record { moves = refl }
+
+pub burst_example : BurstExample
+unfolding carries_a carries_d rounded
+burst_example = record { lowest = refl; round = refl }

@@ -1,6 +1,6 @@
 -- The moves of a cycle: those that may be made at its start, and of those among which there is a choice the one that
 -- is chosen; as a list in their order, and what they leave.
-use Rattle.std.specs.Prelude.{ℕ, ◌≡◌, Bool, false, cond, List, [], ◌∷◌, ◌++◌, length, get_or, Option, Some, None, slice_get, find, flat_map}
+use Rattle.std.specs.Prelude.{ℕ, Bool, false, cond, List, [], ◌∷◌, ◌++◌, length, get_or, Option, Some, None, slice_get, find, flat_map}
 use Rattle.std.specs.List.{range_with_len}
 use Rattle.std.specs.Option.{option_map, option_map_or, option_to_list}
 use Rattle.tl_edge.specs.declared.beat.ABeat.{ABeat}
@@ -10,9 +10,6 @@ use Rattle.tl_edge.specs.declared.plan.Leaf.{Leaf}
 use Rattle.tl_edge.specs.declared.plan.Plan.{Plan}
 use Rattle.flow_core.specs.declared.moves.Move.{Move}
 use Rattle.flow_core.specs.declared.moves.Move.TheVariants.{Enter, Leave, Reply, Return, AbsorbA, AbsorbD, ForwardA, ForwardD}
-use Rattle.flow_core.specs.Leaves.{LeafState}
-use Rattle.flow_core.specs.Leaves.LeafState.{BufferState}
-use Rattle.flow_core.specs.Tags.{Held}
 use Rattle.flow_core.specs.Network.{State, is_enabled, state_after}
 use Rattle.flow_core.specs.Turns.{leaf_state, turn_down, turn_up, next_id}
 use Rattle.flow_choice.specs.declared.cycle.Among.{Among}
@@ -127,3 +124,9 @@ state_after_moves state (move ∷ moves) = state_after_moves (state_after state 
 -- the state at the start of the next cycle
 abbrev pub state_after_cycle : State → Offers → State
 state_after_cycle state offers = state_after_moves state (chosen_moves state offers)
+
+-- the chosen moves of each of some cycles, by their offers
+abbrev pub moves_by_cycle : State → List Offers → List (List Move)
+moves_by_cycle state [] = []
+moves_by_cycle state (offers ∷ cycles) =
+    chosen_moves state offers ∷ moves_by_cycle (state_after_cycle state offers) cycles

@@ -1,14 +1,12 @@
 -- Worked examples: the order in which some are asked, the new id at a shrinker, and all chosen moves of a cycle of a
 -- network of two sources, a crossbar and a memory, under both policies.
-use Rattle.std.specs.Prelude.{ℕ, ◌≡◌, true, false, List, [], ◌∷◌, codes, Some, None}
+use Rattle.std.specs.Prelude.{◌≡◌, true, [], ◌∷◌, codes, Some, None}
 use Rattle.tl_params.specs.declared.ops.Policy.{Policy}
 use Rattle.tl_params.specs.declared.ops.Policy.TheVariants.{Lowest, Round}
 use Rattle.tl_params.specs.declared.ops.Template.TheVariants.{Xbar}
-use Rattle.tl_edge.specs.declared.beat.Tag.{Tag}
 use Rattle.tl_edge.specs.declared.plan.Plan.{Plan}
 use Rattle.tl_edge.specs.ExamplePlan.{edge, leaf, example_port, memory}
 use Rattle.flow_core.specs.declared.locks.Gate.{Gate}
-use Rattle.flow_core.specs.declared.locks.Lock.{Lock}
 use Rattle.flow_core.specs.declared.moves.Move.TheVariants.{Enter, Leave, Reply, Return, ForwardA, ForwardD}
 use Rattle.flow_core.specs.Leaves.{open_gate}
 use Rattle.flow_core.specs.Leaves.LeafState.{XbarState, ShrinkerState}
@@ -51,7 +49,9 @@ two_to_one policy = record {
 abbrev pub busy : Policy → Gate → State
 busy policy gate = record {
   plan = two_to_one policy;
-  a = ((get 3 0 0x80000000 0xff, no_tag) ∷ []) ∷ ((put_16 1 7, no_tag) ∷ []) ∷ ((get 3 2 0x80000008 0xff, no_tag) ∷ []) ∷ [];
+  a =
+      ((get 3 0 0x80000000 0xff, no_tag) ∷ []) ∷ ((put_16 1 7, no_tag) ∷ []) ∷ ((get 3 2 0x80000008 0xff, no_tag) ∷ [])
+      ∷ [];
   d = ((got 3 1 9, no_tag) ∷ []) ∷ [] ∷ ((put_16_done 2, no_tag) ∷ []) ∷ [];
   leaves =
       record {

@@ -6,3 +6,4 @@ pub mod Laws
 pub mod Examples
 pub mod Orderly
 pub mod OrderlyExamples
+pub mod BurstExamples

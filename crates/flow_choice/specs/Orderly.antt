@@ -1,6 +1,6 @@
 -- Orderly moves: what enters at source ports are the beats of one list of legal requests for each, and what is replied
 -- at sink ports those of one list of responses for each, to the requests that left there, in order.
-use Rattle.std.specs.Prelude.{ℕ, ◌≡◌, ◌+◌, ◌-◌, ◌≤◌, ◌==◌, cond, nat_lt, List, [], ◌∷◌, ◌++◌, length, take, sum_by, count_by, All, Option, Some, None, slice_get, IsTrue}
+use Rattle.std.specs.Prelude.{ℕ, ◌≡◌, ◌+◌, ◌-◌, ◌≤◌, ◌==◌, cond, List, [], ◌∷◌, ◌++◌, length, take, sum_by, count_by, All, Option, Some, None, slice_get}
 use Rattle.std.specs.Option.{option_map_or, option_to_list}
 use Rattle.tl_edge.specs.declared.beat.ABeat.{ABeat}
 use Rattle.tl_edge.specs.declared.beat.DBeat.{DBeat}
@@ -41,24 +41,24 @@ returned_by port state (Return at) = cond (at == port) (option_to_list (returnin
 returned_by port state _ = []
 
 -- all that entered at a source port
-abbrev pub entered : ℕ → List Move → List (ABeat × Tag)
-entered port [] = []
-entered port (move ∷ moves) = entered_by port move ++ entered port moves
+abbrev pub all_entered : ℕ → List Move → List (ABeat × Tag)
+all_entered port [] = []
+all_entered port (move ∷ moves) = entered_by port move ++ all_entered port moves
 
 -- all that was replied at a sink port
-abbrev pub replied : ℕ → List Move → List (DBeat × Tag)
-replied port [] = []
-replied port (move ∷ moves) = replied_by port move ++ replied port moves
+abbrev pub all_replied : ℕ → List Move → List (DBeat × Tag)
+all_replied port [] = []
+all_replied port (move ∷ moves) = replied_by port move ++ all_replied port moves
 
 -- all that left at a sink port
-abbrev pub left : ℕ → State → List Move → List (ABeat × Tag)
-left port state [] = []
-left port state (move ∷ moves) = left_by port state move ++ left port (state_after state move) moves
+abbrev pub all_left : ℕ → State → List Move → List (ABeat × Tag)
+all_left port state [] = []
+all_left port state (move ∷ moves) = left_by port state move ++ all_left port (state_after state move) moves
 
 -- all that returned at a source port
-abbrev pub returned : ℕ → State → List Move → List (DBeat × Tag)
-returned port state [] = []
-returned port state (move ∷ moves) = returned_by port state move ++ returned port (state_after state move) moves
+abbrev pub all_returned : ℕ → State → List Move → List (DBeat × Tag)
+all_returned port state [] = []
+all_returned port state (move ∷ moves) = returned_by port state move ++ all_returned port (state_after state move) moves
 
 -- ---- requests that are there whole, by their first beats
 
@@ -75,18 +75,18 @@ whole_now begun = cond (begun.left == 0) (begun.first ∷ []) []
 abbrev pub under_way : Begun → Option Begun
 under_way begun = cond (begun.left == 0) None (Some begun)
 
--- what is under way with one beat more, on a bus of so many bytes: a request that it begins, or one with a beat fewer to
--- come
-abbrev pub with_beat : ℕ → Option Begun → ABeat × Tag → Begun
-with_beat width None beat =
+-- what is under way with one beat more, on a bus of so many bytes: a request that it begins, or one with a beat fewer
+-- to come
+abbrev pub begun_with : ℕ → Option Begun → ABeat × Tag → Begun
+begun_with width None beat =
     record { first = beat; left = request_beats beat.0.op beat.0.size width - 1 }
-with_beat width (Some begun) beat = record { first = begun.first; left = begun.left - 1 }
+begun_with width (Some begun) beat = record { first = begun.first; left = begun.left - 1 }
 
 -- the first beats of the requests that some beats make whole, where one may be under way
 abbrev pub whole_from : ℕ → Option Begun → List (ABeat × Tag) → List (ABeat × Tag)
 whole_from width begun [] = []
 whole_from width begun (beat ∷ beats) =
-    whole_now (with_beat width begun beat) ++ whole_from width (under_way (with_beat width begun beat)) beats
+    whole_now (begun_with width begun beat) ++ whole_from width (under_way (begun_with width begun beat)) beats
 
 -- the same from the first beat on
 abbrev pub whole : ℕ → List (ABeat × Tag) → List (ABeat × Tag)
@@ -131,15 +131,15 @@ pub record EntersNext (plan : Plan) (asks : List Request) (before : List Move) (
   pub index : ℕ
   pub is : slice_get asks number ≡ Some request
   pub its_beat : slice_get (beats_of_request (port_width plan plan.sources port) request) index ≡ Some beat
-  pub place : length (entered port before)
+  pub place : length (all_entered port before)
       ≡ beats_of_all (port_width plan plan.sources port) (take number asks) + index
   pub its_tag : tag ≡ record { port = port; index = number; piece = 0 }
   pub free : index ≡ 0
       → awaited (port_width plan plan.sources port) request.source (take number asks)
-      ≤ with_id request.source (returned port (network_at_start plan) before)
+      ≤ with_id request.source (all_returned port (network_at_start plan) before)
 
 -- a response answers a request by its first beat: the op that answers it, its size and id, and all bytes of its data
-pub record Answers (first : ABeat) (response : Response) : Type 0 where
+pub record AnswersIt (first : ABeat) (response : Response) : Type 0 where
   pub op : response.op ≡ ack_of first.op
   pub size : response.size ≡ first.size
   pub source : response.source ≡ first.source
@@ -147,20 +147,20 @@ pub record Answers (first : ABeat) (response : Response) : Type 0 where
 
 -- what is replied at a port next: the beat with a number of a response, behind the beats of all responses before it and
 -- those of its own; the response answers the request that left there whole with the same number, and has its tag
-pub record RepliesNext (plan : Plan) (answers : List Response) (before : List Move) (port : ℕ) (beat : DBeat) (tag : Tag)
-    : Type 0 where
+pub record RepliesNext (plan : Plan) (answers : List Response) (before : List Move) (port : ℕ) (beat : DBeat)
+    (tag : Tag) : Type 0 where
   pub number : ℕ
   pub asked : ABeat × Tag
   pub response : Response
   pub index : ℕ
   pub left_whole :
-      slice_get (whole (port_width plan plan.sinks port) (left port (network_at_start plan) before)) number
+      slice_get (whole (port_width plan plan.sinks port) (all_left port (network_at_start plan) before)) number
       ≡ Some asked
   pub is : slice_get answers number ≡ Some response
-  pub fits : Answers asked.0 response
+  pub fits : AnswersIt asked.0 response
   pub its_beat :
       slice_get (beats_of_response (port_width plan plan.sinks port) asked.0.address response) index ≡ Some beat
-  pub place : length (replied port before)
+  pub place : length (all_replied port before)
       ≡ replies_of_all (port_width plan plan.sinks port) (take number answers) + index
   pub its_tag : tag ≡ asked.1
 

@@ -1,3 +1,4 @@
+ghost use Rattle.flow_choice.specs.BurstExamples.{BurstExample, StraightExample};
 ghost use Rattle.flow_choice.specs.Examples.{CycleExample, TurnsExample};
 ghost use Rattle.flow_choice.specs.Laws.{CommuteLaw};
 ghost use Rattle.flow_choice.specs.Numbered.{NumberedLaw};
@@ -10,11 +11,13 @@ pub fn commute_law()
 {}
 
 /// Who is asked first under each policy, all chosen moves of a cycle in an example in which every queue is
-/// written out, and what has passed the ports in a list of moves.
+/// written out, what has passed the ports in a list of moves, and whole runs with the offers of every cycle.
 pub fn choice_examples_law()
     ensures turns { TurnsExample }
     ensures cycle { CycleExample }
     ensures passed { PassedExample }
+    ensures straight { StraightExample }
+    ensures bursts { BurstExample }
 {}
 
 /// The ports, leaves, inputs and outputs of a sound plan have numbers of 32 bits, as `choose` needs.

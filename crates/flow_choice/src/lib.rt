@@ -1,5 +1,5 @@
-//! What a network does in one cycle: of all moves that may be made at its start the chosen ones, in their order,
-//! and that the order doesn't matter.
+//! What a network does in one cycle: of all moves that may be made at its start the chosen ones, in their
+//! order, and that the order doesn't matter.
 #![tactic(auto)]
 
 mod cycle;

@@ -1,4 +1,4 @@
-use Rattle.std.proofs.Common.{◌≡◌, ◌-◌, true, false, sym, ap, ◌∙◌}
+use Rattle.std.proofs.Common.{◌≡◌, true, false}
 use Rattle.flow_core.specs.Network.{is_enabled}
 use Rattle.flow_choice.specs.Choosing.{choice_of}
 use Rattle.flow_choice.proofs.Adding.{found_here, found_later}
