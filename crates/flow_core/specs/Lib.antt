@@ -12,4 +12,5 @@ pub mod ExampleBeats
 pub mod Examples
 pub mod Built
 pub mod ExampleMoves
+pub mod Gating
 pub mod Shapes
