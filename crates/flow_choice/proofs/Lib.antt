@@ -12,3 +12,4 @@ pub mod Listing
 pub mod Adding
 pub mod Counts
 pub mod Worked
+pub mod Served

@@ -33,8 +33,8 @@ straight = record {
 }
 
 -- a put of eight bytes
-abbrev pub put_8 : ABeat
-put_8 = record {
+abbrev pub put_word : ABeat
+put_word = record {
   op = PutFull;
   param = 0;
   size = 3;
@@ -45,8 +45,8 @@ put_8 = record {
 }
 
 -- its answer
-abbrev pub put_8_done : DBeat
-put_8_done = record { op = Plain; size = 3; source = 0; denied = false; payload = 0 }
+abbrev pub put_word_done : DBeat
+put_word_done = record { op = Plain; size = 3; source = 0; denied = false; payload = 0 }
 
 -- a get of the upper four of these bytes
 abbrev pub get_4 : ABeat
@@ -64,14 +64,14 @@ offered enter takes reply =
 -- the memory takes a request, answers it in the next cycle, and takes again in the one after
 abbrev pub put_and_get : List Offers
 put_and_get =
-    offered (Some (put_8, no_tag)) true None ∷ offered (Some (get_4, no_tag)) true None
-    ∷ offered None false (Some (put_8_done, no_tag)) ∷ offered None true None
+    offered (Some (put_word, no_tag)) true None ∷ offered (Some (get_4, no_tag)) true None
+    ∷ offered None false (Some (put_word_done, no_tag)) ∷ offered None true None
     ∷ offered None false (Some (got_4, no_tag)) ∷ offered None true None ∷ []
 
 -- a beat that enters leaves in the next cycle, and an answer returns in the one after it was put
 pub record StraightExample : Type 0 where
   pub moves : moves_by_cycle (network_at_start straight) put_and_get
-      ≡ (Enter 0 put_8 no_tag ∷ []) ∷ (Enter 0 get_4 no_tag ∷ Leave 0 ∷ []) ∷ (Reply 0 put_8_done no_tag ∷ [])
+      ≡ (Enter 0 put_word no_tag ∷ []) ∷ (Enter 0 get_4 no_tag ∷ Leave 0 ∷ []) ∷ (Reply 0 put_word_done no_tag ∷ [])
       ∷ (Return 0 ∷ Leave 0 ∷ []) ∷ (Reply 0 got_4 no_tag ∷ []) ∷ (Return 0 ∷ []) ∷ []
 
 -- ---- two sources, a crossbar and a memory

@@ -2,6 +2,7 @@ ghost use Rattle.std.specs.Prelude.{◌≡◌, ◌++◌, ◌-◌, ◌≤◌, len
 ghost use Rattle.std.specs.List.{range_with_len};
 ghost use Rattle.flow_choice.specs.Numbered.{IsNumbered};
 ghost use Rattle.flow_core.specs.Network as net;
+ghost use Rattle.flow_core.specs.Turns as turns;
 ghost use Rattle.flow_choice.specs.Choosing as spec;
 ghost use Rattle.flow_choice.specs.Turns.{in_turn};
 
@@ -226,6 +227,28 @@ fn output_count(network: &Network, leaf: u32) -> u32
     }
 }
 
+// Which input's turn is next at an output of a leaf.
+#[tactic(auto, using(crate::proofs::Served::turn_at_output))]
+fn turn_down(network: &Network, leaf: u32, output: u32) -> usize
+    ensures { result ≡ turns.turn_down (turns.leaf_state network.now leaf) output }
+{
+    match network.output_gate(leaf, output) {
+        None => 0,
+        Some(gate) => gate.next,
+    }
+}
+
+// Which output's turn is next at an input of a leaf.
+#[tactic(auto, using(crate::proofs::Served::turn_at_input))]
+fn turn_up(network: &Network, leaf: u32, input: u32) -> usize
+    ensures { result ≡ turns.turn_up (turns.leaf_state network.now leaf) input }
+{
+    match network.input_gate(leaf, input) {
+        None => 0,
+        Some(gate) => gate.next,
+    }
+}
+
 // How many source ports there are.
 #[tactic(auto, using(crate::proofs::Counts::few_sources))]
 fn source_count(network: &Network) -> u32
@@ -263,7 +286,7 @@ fn add_downs(list: &mut Moves, network: &Network, leaf: u32) -> Result<(), Memor
     let outputs = output_count(network, leaf);
     let id = network.next_id(leaf);
     for output in 0..outputs {
-        let next = network.turn_down(leaf, output);
+        let next = turn_down(network, leaf, output);
         add_first(
             list,
             network,
@@ -284,7 +307,7 @@ fn add_ups(list: &mut Moves, network: &Network, leaf: u32) -> Result<(), Memory>
     let inputs = input_count(network, leaf);
     let outputs = output_count(network, leaf);
     for input in 0..inputs {
-        let next = network.turn_up(leaf, input);
+        let next = turn_up(network, leaf, input);
         add_first(list, network, Among::Up { leaf, input }, next, outputs)?;
     }
     Ok(())

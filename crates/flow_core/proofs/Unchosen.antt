@@ -1,32 +1,35 @@
--- A buffer has no choice among inputs, outputs or ids.
-use Rattle.std.proofs.Common.{ℕ, ◌≡◌, List, map, Option, Some, None, refl, sym, ap, ◌∙◌, slice_get}
-use Rattle.std.specs.Option.{option_map, option_map_or}
+-- Neither a buffer nor a crossbar has a choice of an id.
+use Rattle.std.proofs.Common.{ℕ, ◌≡◌, List, Option, Some, None, refl, ap, ◌∙◌, slice_get}
+use Rattle.std.specs.Option.{option_map_or}
+use Rattle.tl_params.specs.declared.ops.Template.{Template}
+use Rattle.tl_params.specs.declared.ops.Template.TheVariants.{Buffer, Width, Fragmenter, Shrinker, Xbar}
 use Rattle.tl_edge.specs.declared.beat.ABeat.{ABeat}
 use Rattle.tl_edge.specs.declared.beat.DBeat.{DBeat}
 use Rattle.tl_edge.specs.declared.beat.Tag.{Tag}
 use Rattle.tl_edge.specs.declared.plan.Leaf.{Leaf}
 use Rattle.tl_edge.specs.declared.plan.Plan.{Plan}
+use Rattle.flow_core.specs.Crossing.{Crossbar, Gates}
 use Rattle.flow_core.specs.Leaves.LeafState.{BufferState}
 use Rattle.flow_core.specs.Tags.{Held}
-use Rattle.flow_core.specs.Network.{held_at_start}
-use Rattle.flow_core.specs.Turns.{leaf_state, turn_down, turn_up, next_id}
-use Rattle.flow_core.specs.Built.{IsBuilt, network}
-use Rattle.flow_core.proofs.Buffers.{buffer_held, held_get}
+use Rattle.flow_core.specs.Network.{both}
+use Rattle.flow_core.specs.Turns.{leaf_state, next_id}
+use Rattle.flow_core.specs.Built.{network, bar_of, state_of, held_of, held_with}
+use Rattle.flow_core.proofs.Moved.{held_get}
 
-module _ (plan : Plan) (built : IsBuilt plan) (a : List (List (ABeat × Tag))) (d : List (List (DBeat × Tag))) (l : ℕ) where
-  leaf_is : leaf_state (network plan a d) l ≡ BufferState
-  unfolding buffer_held
-  leaf_is = ap (λ o. option_map_or (λ (held : Held). held.leaf) o BufferState) (held_get plan plan.leaves l built) ∙ at (slice_get plan.leaves l)
-    where
-      at : (o : Option Leaf) → option_map_or (λ (held : Held). held.leaf) (option_map (λ (leaf : Leaf). buffer_held) o) BufferState ≡ BufferState
-      at None = refl
-      at (Some leaf) = refl
+none_by : (t : Template) (bar : Crossbar) (own : Gates) → next_id (state_of t bar own) ≡ 0
+none_by Buffer bar own = refl
+none_by Width bar own = refl
+none_by Fragmenter bar own = refl
+none_by Shrinker bar own = refl
+none_by Xbar bar own = refl
 
-  pub no_turn_down : (output : ℕ) → turn_down (leaf_state (network plan a d) l) output ≡ 0
-  no_turn_down output = ap (λ leaf. turn_down leaf output) leaf_is
+found : (plan : Plan) (L : Option Leaf) (G : Option Gates)
+    → next_id (option_map_or (λ (held : Held). held.leaf) (both L G (λ leaf own. Some (held_of plan leaf own))) BufferState) ≡ 0
+found plan None G = refl
+found plan (Some leaf) None = refl
+found plan (Some leaf) (Some own) = none_by leaf.template (bar_of plan leaf) own
 
-  pub no_turn_up : (input : ℕ) → turn_up (leaf_state (network plan a d) l) input ≡ 0
-  no_turn_up input = ap (λ leaf. turn_up leaf input) leaf_is
-
-  pub no_new_id : next_id (leaf_state (network plan a d) l) ≡ 0
-  no_new_id = ap next_id leaf_is
+pub no_new_id : (plan : Plan) (a : List (List (ABeat × Tag))) (d : List (List (DBeat × Tag))) (gates : List Gates) (l : ℕ) → next_id (leaf_state (network plan a d gates) l) ≡ 0
+no_new_id plan a d gates l =
+    ap (λ o. next_id (option_map_or (λ (held : Held). held.leaf) o BufferState)) (held_get plan plan.leaves gates l)
+    ∙ found plan (slice_get plan.leaves l) (slice_get gates l)

@@ -12,5 +12,6 @@ pub mod ExampleBeats
 pub mod Examples
 pub mod Built
 pub mod ExampleMoves
+pub mod Gating
 pub mod Shapes
 pub mod Turns

@@ -2,11 +2,13 @@
 #![tactic(auto)]
 
 mod carried;
+mod crossing;
 mod laws;
 mod locks;
 mod moves;
 mod network;
 mod queue;
+mod ways;
 
 pub use laws::{examples_law, moves_law, shape_law, tags_law};
 pub use locks::{Gate, Lock};
