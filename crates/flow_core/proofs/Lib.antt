@@ -1,5 +1,11 @@
+pub mod Limits
 pub mod Untagged
 pub mod Worked
-pub mod Buffers
+pub mod Sizes
+pub mod Standing
+pub mod Passes
+pub mod Moved
+pub mod Gated
 pub mod Runs
 pub mod WorkedMoves
+pub mod Unchosen

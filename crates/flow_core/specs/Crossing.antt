@@ -10,27 +10,18 @@ use Rattle.tl_edge.specs.declared.beat.ABeat.{ABeat}
 use Rattle.tl_edge.specs.declared.beat.DBeat.{DBeat}
 use Rattle.tl_edge.specs.Beats.{request_beats, response_beats}
 use Rattle.flow_core.specs.Acts.{Act, forwards, with_a_id, with_d_id}
+-- a message in progress holds a way: for whom, and how many of its beats are left
+pub use Rattle.flow_core.specs.declared.locks.Lock.{Lock}
+-- one output on channel A, or one input on channel D: who holds it, if any, and whose turn is next
+pub use Rattle.flow_core.specs.declared.locks.Gate.{Gate}
+-- the state: a gate for each output, and one for each input
+pub use Rattle.flow_core.specs.declared.locks.Gates.{Gates}
 
 -- what a crossbar goes by: the range of ids of each input, the slaves of each output, and the width of its buses
 pub record Crossbar : Type 0 where
   pub ranges : List IdRange
   pub slaves : List (List Slave)
   pub width : ℕ
-
--- a message in progress holds a way: for whom, and how many of its beats are left
-pub record Lock : Type 0 where
-  pub by : ℕ
-  pub left : ℕ
-
--- one output on channel A, or one input on channel D: who holds it, if any, and whose turn is next
-pub record Gate : Type 0 where
-  pub lock : Option Lock
-  pub next : ℕ
-
--- the state: a gate for each output, and one for each input
-pub record Gates : Type 0 where
-  pub outs : List Gate
-  pub ins : List Gate
 
 -- the lock of one that has so many beats to pass, after one of them
 abbrev pub lock_after : ℕ → ℕ → Option Lock

@@ -14,7 +14,7 @@ use Rattle.flow_core.specs.Fragmenting.Phase.{Sending, Waiting, Replying}
 use Rattle.flow_core.specs.Leaves.LeafState.{BufferState, FragmenterState}
 use Rattle.flow_core.specs.Tags.{no_tag}
 use Rattle.flow_core.specs.Network.{State, network_at_start, is_enabled, state_after}
-use Rattle.flow_core.specs.ExampleBeats.{get, got}
+use Rattle.flow_core.specs.ExampleBeats.{put_16, get, got}
 use Rattle.flow_core.specs.Examples.{pieces_of_8, in_hand}
 
 -- source, leaf and sink: edge 0 is above the leaf, edge 1 below it
@@ -37,16 +37,23 @@ buffered a_above a_below d_above d_below = record {
   leaves = record { leaf = BufferState; tag = no_tag } ∷ [];
 }
 
--- beats go in at the end and out at the head, whatever they are, and need a head and room; a move that names what isn't
--- there, or that a buffer hasn't, may not be made
+-- beats go in at the end and out at the head, and need a head and room; what the edge of a port can't carry may not be
+-- put there; a move that names what isn't there, or that a buffer hasn't, may not be made
 pub record MovesExample : Type 0 where
   pub starts : network_at_start (one_leaf Buffer []) ≡ buffered [] [] [] []
-  pub enters : (x : ABeat × Tag) (beat : ABeat) (tag : Tag)
-      → state_after (buffered (x ∷ []) [] [] []) (Enter 0 beat tag) ≡ buffered (x ∷ (beat, tag) ∷ []) [] [] []
-  pub may_enter : (x : ABeat × Tag) (beat : ABeat) (tag : Tag)
-      → is_enabled (buffered (x ∷ []) [] [] []) (Enter 0 beat tag) ≡ true
-  pub full : (x y : ABeat × Tag) (beat : ABeat) (tag : Tag)
-      → is_enabled (buffered (x ∷ y ∷ []) [] [] []) (Enter 0 beat tag) ≡ false
+  pub enters : (x : ABeat × Tag) (tag : Tag)
+      → state_after (buffered (x ∷ []) [] [] []) (Enter 0 (put_16 1 7) tag)
+      ≡ buffered (x ∷ (put_16 1 7, tag) ∷ []) [] [] []
+  pub may_enter : (x : ABeat × Tag) (tag : Tag)
+      → is_enabled (buffered (x ∷ []) [] [] []) (Enter 0 (put_16 1 0xffffffffffffffff) tag) ≡ true
+  pub too_wide : (tag : Tag) → is_enabled (buffered [] [] [] []) (Enter 0 (put_16 1 0x10000000000000000) tag) ≡ false
+  pub no_lane : (tag : Tag) → is_enabled (buffered [] [] [] []) (Enter 0 (get 4 1 0x80000010 0x100) tag) ≡ false
+  pub no_such_id : (tag : Tag) → is_enabled (buffered [] [] [] []) (Enter 0 (put_16 2 0) tag) ≡ false
+  pub too_large : (tag : Tag) → is_enabled (buffered [] [] [] []) (Enter 0 (get 9 1 0x80000000 0xff) tag) ≡ false
+  pub unaligned : (tag : Tag) → is_enabled (buffered [] [] [] []) (Enter 0 (get 4 1 0x80000008 0xff) tag) ≡ false
+  pub no_address : (tag : Tag) → is_enabled (buffered [] [] [] []) (Enter 0 (get 4 1 0x1000000000000 0xff) tag) ≡ false
+  pub full : (x y : ABeat × Tag) (tag : Tag)
+      → is_enabled (buffered (x ∷ y ∷ []) [] [] []) (Enter 0 (put_16 1 7) tag) ≡ false
   pub no_port : (beat : ABeat) (tag : Tag) → is_enabled (buffered [] [] [] []) (Enter 1 beat tag) ≡ false
   pub forwards : (x y z : ABeat × Tag)
       → state_after (buffered (x ∷ y ∷ []) (z ∷ []) [] []) (ForwardA 0 0 0 0) ≡ buffered (y ∷ []) (z ∷ x ∷ []) [] []
@@ -61,8 +68,13 @@ pub record MovesExample : Type 0 where
   pub leaves : (x y : ABeat × Tag) → state_after (buffered [] (x ∷ y ∷ []) [] []) (Leave 0) ≡ buffered [] (y ∷ []) [] []
   pub may_leave : (x y : ABeat × Tag) → is_enabled (buffered [] (x ∷ y ∷ []) [] []) (Leave 0) ≡ true
   pub nothing_leaves : is_enabled (buffered [] [] [] []) (Leave 0) ≡ false
-  pub replies : (beat : DBeat) (tag : Tag)
-      → state_after (buffered [] [] [] []) (Reply 0 beat tag) ≡ buffered [] [] [] ((beat, tag) ∷ [])
+  pub replies : (tag : Tag)
+      → state_after (buffered [] [] [] []) (Reply 0 (got 3 1 7) tag) ≡ buffered [] [] [] ((got 3 1 7, tag) ∷ [])
+  pub may_reply : (tag : Tag) → is_enabled (buffered [] [] [] []) (Reply 0 (got 3 1 0xffffffffffffffff) tag) ≡ true
+  pub reply_too_wide : (tag : Tag)
+      → is_enabled (buffered [] [] [] []) (Reply 0 (got 3 1 0x10000000000000000) tag) ≡ false
+  pub reply_to_no_id : (tag : Tag) → is_enabled (buffered [] [] [] []) (Reply 0 (got 3 2 7) tag) ≡ false
+  pub reply_too_large : (tag : Tag) → is_enabled (buffered [] [] [] []) (Reply 0 (got 9 1 7) tag) ≡ false
   pub back : (x y : DBeat × Tag)
       → state_after (buffered [] [] [] (x ∷ y ∷ [])) (ForwardD 0 0 0) ≡ buffered [] [] (x ∷ []) (y ∷ [])
   pub may_go_back : (x : DBeat × Tag) → is_enabled (buffered [] [] [] (x ∷ [])) (ForwardD 0 0 0) ≡ true

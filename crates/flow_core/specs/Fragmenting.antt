@@ -9,7 +9,7 @@ use Rattle.tl_edge.specs.declared.beat.DBeat.{DBeat}
 use Rattle.tl_edge.specs.Bundles.{log_of}
 use Rattle.tl_edge.specs.Messages.{ack_of, bytes_of, has_data}
 use Rattle.tl_edge.specs.Beats.{active_mask, request_beats, response_beats}
-use Rattle.tl_pieces.specs.Cutting.{may_be_cut}
+use Rattle.tl_pieces.specs.Cutting.{cuts}
 use Rattle.flow_core.specs.Acts.{Act, forwards}
 
 -- what a fragmenter goes by: the bytes of a piece, and the width of its buses
@@ -55,7 +55,7 @@ head_of beat = record {
 
 -- a get or put of more bytes than a piece
 abbrev pub is_cut_by : Knife → Head → Bool
-is_cut_by knife head = may_be_cut head.op && nat_lt knife.most (bytes_of head.size)
+is_cut_by knife head = cuts knife.most head.op head.size
 
 -- the size of each piece
 abbrev pub piece_size : Knife → Head → ℕ

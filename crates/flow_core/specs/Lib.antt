@@ -6,9 +6,12 @@ pub mod Fragmenting
 pub mod Leaves
 pub mod Tags
 pub mod Queues
+pub mod Carried
 pub mod Network
 pub mod ExampleBeats
 pub mod Examples
 pub mod Built
 pub mod ExampleMoves
+pub mod Gating
 pub mod Shapes
+pub mod Turns

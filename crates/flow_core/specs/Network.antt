@@ -10,7 +10,9 @@ use Rattle.tl_edge.specs.declared.plan.Plan.{Plan}
 use Rattle.flow_core.specs.declared.moves.Move.{Move}
 use Rattle.flow_core.specs.declared.moves.Move.TheVariants.{Enter, Leave, Reply, Return, AbsorbA, AbsorbD, ForwardA, ForwardD}
 use Rattle.flow_core.specs.declared.queue.Flow.{Flow}
+use Rattle.tl_edge.specs.Plans.{edge_at}
 use Rattle.flow_core.specs.Acts.{Act}
+use Rattle.flow_core.specs.Carried.{carries_a, carries_d}
 use Rattle.flow_core.specs.Leaves.{leaf_at_start}
 use Rattle.flow_core.specs.Tags.{Held, no_tag, held_down, held_down_alone, held_up, held_up_alone}
 use Rattle.flow_core.specs.Queues.{queue, head_in, still, takes, puts, may_flow, flowed}
@@ -144,14 +146,24 @@ leaving state port = option_and_then (λ edge. head_in (queue state.a edge)) (ed
 abbrev pub returning : State → ℕ → Option (DBeat × Tag)
 returning state port = option_and_then (λ edge. head_in (queue state.d edge)) (edge_of_port state.plan.sources port)
 
+-- a beat is put onto an edge that carries it, on channel A
+abbrev pub put_job_a : Plan → ABeat → Tag → ℕ → Option Job
+put_job_a plan beat tag edge =
+    cond (carries_a (edge_at plan edge) beat) (Some (port_job_a (puts edge (beat, tag)))) None
+
+-- the same on channel D
+abbrev pub put_job_d : Plan → DBeat → Tag → ℕ → Option Job
+put_job_d plan beat tag edge =
+    cond (carries_d (edge_at plan edge) beat) (Some (port_job_d (puts edge (beat, tag)))) None
+
 -- what a move does where it names a port, or a leaf with an input and an output, and where the leaf acts; whether there
 -- are head and room isn't asked here
 abbrev pub job : State → Move → Option Job
 job state (Enter port beat tag) =
-    option_map (λ edge. port_job_a (puts edge (beat, tag))) (edge_of_port state.plan.sources port)
+    option_and_then (put_job_a state.plan beat tag) (edge_of_port state.plan.sources port)
 job state (Leave port) = option_map (λ edge. port_job_a (takes edge)) (edge_of_port state.plan.sinks port)
 job state (Reply port beat tag) =
-    option_map (λ edge. port_job_d (puts edge (beat, tag))) (edge_of_port state.plan.sinks port)
+    option_and_then (put_job_d state.plan beat tag) (edge_of_port state.plan.sinks port)
 job state (Return port) = option_map (λ edge. port_job_d (takes edge)) (edge_of_port state.plan.sources port)
 job state (AbsorbA leaf) = option_map (leaf_job_a leaf) (option_and_then absorbing (part_a state leaf 0 0 0))
 job state (AbsorbD leaf) = option_map (leaf_job_d leaf) (option_and_then absorbing (part_d state leaf 0 0))

@@ -6,6 +6,7 @@ use Rattle.tl_edge.specs.declared.beat.ABeat.{ABeat}
 use Rattle.tl_edge.specs.declared.beat.DBeat.{DBeat}
 use Rattle.tl_edge.specs.Messages.{has_data, brings_data}
 use Rattle.tl_edge.specs.Beats.{data_beats, active_mask, most_lanes}
+use Rattle.tl_pieces.specs.TwoBuses.{lane_in_wide}
 use Rattle.flow_core.specs.Acts.{Act, forwards, with_a_lanes, with_d_lanes}
 
 -- what a widget goes by: the widths of the buses towards the sources and towards the sinks
@@ -31,10 +32,6 @@ pub record Lanes : Type 0 where
   pub payload : ℕ
 
 -- ---- narrow beats, counted from 0, of a message at an address, between buses of `narrow` and `wide` bytes
-
--- the lane of its wide beat on which a narrow beat begins
-abbrev pub lane_of_beat : ℕ → ℕ → ℕ → ℕ → ℕ
-lane_of_beat narrow wide address number = (address + number * narrow) % wide / narrow * narrow
 
 -- a narrow beat, of so many, ends its wide beat: it is the last of its message, or the wide beat's last lanes
 abbrev pub ends_wide : ℕ → ℕ → ℕ → ℕ → ℕ → Bool
@@ -82,12 +79,12 @@ turned_at from to address beats side lanes =
     (widens
     (ends_wide from to address beats side.done)
     (number_after beats side.done)
-    (with_lanes side (lane_of_beat from to address side.done) lanes))
+    (with_lanes side (lane_in_wide from to address side.done) lanes))
     (narrows
     (ends_wide to from address beats side.done)
     (number_after beats side.done)
     side
-    (narrowed to (lane_of_beat to from address side.done) lanes))
+    (narrowed to (lane_in_wide to from address side.done) lanes))
 
 -- the same of a message of a size; there is none where all its narrow beats are done
 abbrev pub turned : ℕ → ℕ → ℕ → ℕ → Side → Lanes → Option (Act Lanes Side)

@@ -1,11 +1,16 @@
-ghost use Rattle.std.specs.Prelude.{◌≡◌, IsTrue, IfOk};
-ghost use Rattle.flow_core.specs.Built.{pass_edges, pass_edges_back, IsBuilt};
+ghost use Rattle.std.specs.Prelude.{◌≡◌, IsTrue, IfOk, slice_get};
+ghost use Rattle.flow_core.specs.Built.{passing_down, passing_up, IsBuilt};
+ghost use Rattle.flow_core.specs.Gating as gating;
 ghost use Rattle.flow_core.specs.Network as spec;
+ghost use Rattle.flow_core.specs.Turns as turns;
 ghost use Rattle.flow_core.specs.declared.moves.Move.TheVariants.{AbsorbA, AbsorbD, Enter, ForwardA, ForwardD, Leave, Reply, Return};
 
-use crate::Move;
+use crate::carried::{carries_a, carries_d};
+use crate::crossing::{AllGates, Fixed, Way};
 use crate::queue::Queues;
-use dip_lists::Memory;
+use crate::ways::{fixed_leaves, kept_gates, passing_down as down, passing_up as up};
+use crate::{Gate, Move};
+use dip_lists::{Items, Memory};
 use std::alloc::Global;
 use std::marker::Model;
 use tl_edge::{ABeat, DBeat, Plan, PlanPort, Tag};
@@ -14,19 +19,21 @@ use tl_edge::{ABeat, DBeat, Plan, PlanPort, Tag};
 #[derive(Drop)]
 pub struct Network<'a> {
     plan: &'a Plan,
+    fixed: Items<Fixed>,
+    gates: AllGates,
     a: Queues<(ABeat, Tag)>,
     d: Queues<(DBeat, Tag)>,
 }
 
 impl<'a> Model for Network<'a> {
-    ghost use Rattle.flow_core.specs.Built.{IsBuilt, network};
+    ghost use Rattle.flow_core.specs.Built.{IsNetwork, network};
     ghost use Rattle.flow_core.specs.Network.{State};
 
     ghost Value = { State };
 
-    ghost view = { λ net. network net.plan.now net.a net.d };
+    ghost view = { λ net. network net.plan.now net.a net.d net.gates };
 
-    ghost invariant = { λ net. IsBuilt net.plan.now };
+    ghost invariant = { λ net. IsNetwork net.plan.now net.fixed net.a net.d };
 }
 
 // The edge of a port.
@@ -39,59 +46,31 @@ fn edge_of(ports: &[PlanPort], port: u32) -> Option<u32>
     }
 }
 
-// The edge of a leaf's input.
-fn in_edge(plan: &Plan, leaf: u32, input: u32) -> Option<u32>
-    ensures { result ≡ spec.in_edge plan.now leaf input }
+// The gate at a place.
+fn gate_at(gates: &Items<Gate>, place: u32) -> Option<Gate>
+    ensures { result ≡ slice_get gates.now place }
 {
-    match plan.leaves.as_slice().get(leaf as usize) {
-        None => None,
-        Some(at) => at.ins.as_slice().get(input as usize).copied(),
-    }
-}
-
-// The edge of a leaf's output.
-fn out_edge(plan: &Plan, leaf: u32, output: u32) -> Option<u32>
-    ensures { result ≡ spec.out_edge plan.now leaf output }
-{
-    match plan.leaves.as_slice().get(leaf as usize) {
-        None => None,
-        Some(at) => at.outs.as_slice().get(output as usize).copied(),
-    }
-}
-
-// The edges between which a beat passes a buffer towards the sinks.
-fn way_down(plan: &Plan, leaf: u32, input: u32, output: u32, id: u32) -> Option<(u32, u32)>
-    ensures { result ≡ pass_edges plan.now leaf input output id }
-{
-    if id != 0 || input != 0 || output != 0 {
-        return None;
-    }
-    let from = in_edge(plan, leaf, input)?;
-    let to = out_edge(plan, leaf, output)?;
-    Some((from, to))
-}
-
-// The edges between which a beat passes a buffer towards the sources.
-fn way_up(plan: &Plan, leaf: u32, input: u32, output: u32) -> Option<(u32, u32)>
-    ensures { result ≡ pass_edges_back plan.now leaf input output }
-{
-    if input != 0 || output != 0 {
-        return None;
-    }
-    let from = out_edge(plan, leaf, output)?;
-    let to = in_edge(plan, leaf, input)?;
-    Some((from, to))
+    gates.get(place as usize).copied()
 }
 
 impl<'a> Network<'a> {
-    /// The network of a plan of buffers, with all queues empty.
+    /// The network of a plan of buffers and crossbars, with all queues empty and all gates open.
+    #[tactic(auto, using(crate::proofs::Moved::started))]
     pub fn open(alloc: Global, plan: &'a Plan) -> Result<Network<'a>, Memory>
         requires { IsBuilt plan.now }
         ensures { IfOk result (λ network. network ≡ spec.network_at_start plan.now) }
     {
+        let fixed = fixed_leaves(alloc, plan)?;
+        let gates = AllGates::open(alloc, plan)?;
         let a = Queues::open(alloc, plan.edges.len())?;
         let d = Queues::open(alloc, plan.edges.len())?;
-        Ok(Network { plan, a, d })
+        Ok(Network {
+            plan,
+            fixed,
+            gates,
+            a,
+            d,
+        })
     }
 
     /// The beat that waits to leave at a sink port, if one does.
@@ -116,25 +95,55 @@ impl<'a> Network<'a> {
 }
 
 impl<'a> Network<'a> {
+    /// The gate of a crossbar's output on channel A; `None` exactly where the leaf is no crossbar or has no
+    /// such output.
+    pub fn output_gate(&self, leaf: u32, output: u32) -> Option<Gate>
+        ensures { result ≡ gating.output_gate self.now leaf output }
+    {
+        match kept_gates(self.plan, &self.gates, leaf) {
+            None => None,
+            Some(own) => gate_at(&own.outs, output),
+        }
+    }
+
+    /// The gate of a crossbar's input on channel D; `None` exactly where the leaf is no crossbar or has no
+    /// such input.
+    pub fn input_gate(&self, leaf: u32, input: u32) -> Option<Gate>
+        ensures { result ≡ gating.input_gate self.now leaf input }
+    {
+        match kept_gates(self.plan, &self.gates, leaf) {
+            None => None,
+            Some(own) => gate_at(&own.ins, input),
+        }
+    }
+}
+
+impl<'a> Network<'a> {
     // Whether a leaf may put a beat of a request onto an edge.
-    #[tactic(auto, using(crate::proofs::Buffers::enabled_forward_a))]
+    #[tactic(auto, using(crate::proofs::Moved::none_enabled_a, crate::proofs::Moved::some_enabled_a))]
     fn may_forward_a(&self, leaf: u32, input: u32, output: u32, id: u32) -> bool
         ensures { result ≡ spec.is_enabled self.now (ForwardA leaf input output id) }
     {
-        match way_down(self.plan, leaf, input, output, id) {
+        let way = Way { input, output, id };
+        match down(self.plan, &self.fixed, &self.gates, &self.a, leaf, way) {
             None => false,
-            Some((from, to)) => self.a.may_pass(from, to),
+            Some(passing) => self.a.has_room(passing.to),
         }
     }
 
     // Whether a leaf may put a beat of a response onto an edge.
-    #[tactic(auto, using(crate::proofs::Buffers::enabled_forward_d))]
+    #[tactic(auto, using(crate::proofs::Moved::none_enabled_d, crate::proofs::Moved::some_enabled_d))]
     fn may_forward_d(&self, leaf: u32, input: u32, output: u32) -> bool
         ensures { result ≡ spec.is_enabled self.now (ForwardD leaf input output) }
     {
-        match way_up(self.plan, leaf, input, output) {
+        let way = Way {
+            input,
+            output,
+            id: 0,
+        };
+        match up(self.plan, &self.fixed, &self.gates, &self.d, leaf, way) {
             None => false,
-            Some((from, to)) => self.d.may_pass(from, to),
+            Some(passing) => self.d.has_room(passing.to),
         }
     }
 
@@ -144,7 +153,7 @@ impl<'a> Network<'a> {
     {
         match edge_of(self.plan.sources.as_slice(), port) {
             None => false,
-            Some(edge) => self.a.has_room(edge),
+            Some(edge) => carries_a(self.plan, edge, &beat) && self.a.has_room(edge),
         }
     }
 
@@ -154,7 +163,7 @@ impl<'a> Network<'a> {
     {
         match edge_of(self.plan.sinks.as_slice(), port) {
             None => false,
-            Some(edge) => self.d.has_room(edge),
+            Some(edge) => carries_d(self.plan, edge, &beat) && self.d.has_room(edge),
         }
     }
 
@@ -178,8 +187,8 @@ impl<'a> Network<'a> {
         }
     }
 
-    // Whether a leaf may take a beat into its own state: no buffer does.
-    #[tactic(auto, using(crate::proofs::Buffers::enabled_absorb_a, crate::proofs::Buffers::enabled_absorb_d))]
+    // Whether a leaf may take a beat into its own state: no buffer and no crossbar does.
+    #[tactic(auto, using(crate::proofs::Moved::enabled_absorb_a, crate::proofs::Moved::enabled_absorb_d))]
     fn may_absorb(&self, leaf: u32) -> bool
         ensures a { result ≡ spec.is_enabled self.now (AbsorbA leaf) }
         ensures d { result ≡ spec.is_enabled self.now (AbsorbD leaf) }
@@ -215,24 +224,34 @@ impl<'a> Network<'a> {
 
 impl<'a> Network<'a> {
     // A leaf puts a beat of a request onto an edge.
-    #[tactic(auto, using(crate::proofs::Buffers::enabled_forward_a, crate::proofs::Buffers::after_forward_a))]
+    #[tactic(auto, using(crate::proofs::Moved::afterwards_a))]
     fn forward_a(&mut self, leaf: u32, input: u32, output: u32, id: u32)
         requires { IsTrue (spec.is_enabled self.old (ForwardA leaf input output id)) }
         ensures { self.new ≡ spec.state_after self.old (ForwardA leaf input output id) }
     {
-        if let Some((from, to)) = way_down(self.plan, leaf, input, output, id) {
-            self.a.pass(from, to);
+        let way = Way { input, output, id };
+        let passing = down(self.plan, &self.fixed, &self.gates, &self.a, leaf, way);
+        if let Some(passing) = passing {
+            self.a.pass(&passing);
+            self.gates.pass_out(leaf, output, passing.gate);
         }
     }
 
     // A leaf puts a beat of a response onto an edge.
-    #[tactic(auto, using(crate::proofs::Buffers::enabled_forward_d, crate::proofs::Buffers::after_forward_d))]
+    #[tactic(auto, using(crate::proofs::Moved::afterwards_d))]
     fn forward_d(&mut self, leaf: u32, input: u32, output: u32)
         requires { IsTrue (spec.is_enabled self.old (ForwardD leaf input output)) }
         ensures { self.new ≡ spec.state_after self.old (ForwardD leaf input output) }
     {
-        if let Some((from, to)) = way_up(self.plan, leaf, input, output) {
-            self.d.pass(from, to);
+        let way = Way {
+            input,
+            output,
+            id: 0,
+        };
+        let passing = up(self.plan, &self.fixed, &self.gates, &self.d, leaf, way);
+        if let Some(passing) = passing {
+            self.d.pass(&passing);
+            self.gates.pass_in(leaf, input, passing.gate);
         }
     }
 
@@ -257,7 +276,7 @@ impl<'a> Network<'a> {
     }
 
     // A sink port takes a beat from its edge.
-    #[tactic(auto, using(crate::proofs::Buffers::after_leave))]
+    #[tactic(auto, using(crate::proofs::Moved::after_leave))]
     fn leave(&mut self, port: u32)
         requires { IsTrue (spec.is_enabled self.old (Leave port)) }
         ensures { self.new ≡ spec.state_after self.old (Leave port) }
@@ -268,7 +287,7 @@ impl<'a> Network<'a> {
     }
 
     // A source port takes a beat from its edge.
-    #[tactic(auto, using(crate::proofs::Buffers::after_return))]
+    #[tactic(auto, using(crate::proofs::Moved::after_return))]
     fn give_back(&mut self, port: u32)
         requires { IsTrue (spec.is_enabled self.old (Return port)) }
         ensures { self.new ≡ spec.state_after self.old (Return port) }
@@ -278,8 +297,8 @@ impl<'a> Network<'a> {
         }
     }
 
-    // A leaf takes a beat into its own state, as no buffer does.
-    #[tactic(auto, using(crate::proofs::Buffers::after_absorb_a, crate::proofs::Buffers::after_absorb_d))]
+    // A leaf takes a beat into its own state, as no buffer and no crossbar does.
+    #[tactic(auto, using(crate::proofs::Moved::after_absorb_a, crate::proofs::Moved::after_absorb_d))]
     fn absorb(&mut self, leaf: u32)
         ensures a { self.new ≡ spec.state_after self.old (AbsorbA leaf) }
         ensures d { self.new ≡ spec.state_after self.old (AbsorbD leaf) }
@@ -310,5 +329,22 @@ impl<'a> Network<'a> {
                 output,
             } => self.forward_d(leaf, input, output),
         }
+    }
+}
+
+impl<'a> Network<'a> {
+    /// The plan of the network.
+    pub fn plan(&self) -> &Plan
+        ensures { result.now ≡ self.now.plan }
+    {
+        self.plan
+    }
+
+    /// The new id of the next beat of a request at a leaf; 0 where the leaf has no choice of an id.
+    pub fn next_id(&self, leaf: u32) -> u32
+        ensures { result ≡ turns.next_id (turns.leaf_state self.now leaf) }
+    {
+        let _ = &self.plan;
+        0
     }
 }

@@ -1,7 +1,8 @@
 ghost use Rattle.std.specs.Prelude.{◌≡◌, ◌<◌, [], ◌∷◌, ◌++◌, length, drop, IsTrue, IsSome, replicate, IfOk, Some};
-ghost use Rattle.flow_core.specs.Built.{may_pass, passed};
+ghost use Rattle.flow_core.specs.Built.{passed_on};
 ghost use Rattle.flow_core.specs.Queues as spec;
 
+use crate::crossing::Passing;
 use dip_lists::{Items, Memory};
 use std::alloc::Global;
 use std::marker::Model;
@@ -137,22 +138,13 @@ impl<T: Copy + Drop> Queues<T> {
         }
     }
 
-    /// Whether the head of an edge is there and has room on another.
-    pub fn may_pass(&self, from: u32, to: u32) -> bool
-        ensures { result ≡ may_pass self.now from to }
+    /// Lets the head of an edge go on to another, as what a leaf has made of it.
+    pub fn pass(&mut self, passing: &Passing<T>)
+        requires { IsTrue (spec.has_room_at self.old passing.now.to) }
+        ensures { self.new ≡ passed_on self.old passing.now }
     {
-        self.first(from).is_some() && self.has_room(to)
-    }
-
-    /// Lets the head of an edge go on to another.
-    pub fn pass(&mut self, from: u32, to: u32)
-        requires { IsTrue (may_pass self.old from to) }
-        ensures { self.new ≡ passed self.old from to }
-    {
-        if let Some(beat) = self.first(from) {
-            self.take(from);
-            self.put(to, beat);
-        }
+        self.take(passing.from);
+        self.put(passing.to, passing.beat);
     }
 
     /// Puts a beat onto an edge.

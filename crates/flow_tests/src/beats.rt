@@ -70,13 +70,21 @@ fn tag(source: u32) -> Tag {
     }
 }
 
-/// The move that an offer names: a word, the port or the leaf, and a beat or input, output and id.
-pub fn step_of(alloc: Global, offer: &str) -> Result<Move, Memory> {
+/// The leaf, and the input or output, whose gate an offer asks for.
+pub fn gate_of(alloc: Global, offer: &str) -> Result<(u32, u32), Memory> {
+    let (_, rest) = offer.split_once(' ').unwrap_or((offer, ""));
+    let list = numbers(alloc, rest)?;
+    Ok((small(list.as_slice(), 0), small(list.as_slice(), 1)))
+}
+
+/// The move that an offer names, if it names one: a word, the port or the leaf, and a beat or input, output
+/// and id.
+pub fn step_of(alloc: Global, offer: &str) -> Result<Option<Move>, Memory> {
     let (word, rest) = offer.split_once(' ').unwrap_or((offer, ""));
     let list = numbers(alloc, rest)?;
     let list = list.as_slice();
     let port = small(list, 0);
-    Ok(match word {
+    Ok(Some(match word {
         "enter" => Move::Enter {
             port,
             beat: a_beat(list),
@@ -95,12 +103,13 @@ pub fn step_of(alloc: Global, offer: &str) -> Result<Move, Memory> {
             output: small(list, 2),
             id: small(list, 3),
         },
-        _ => Move::ForwardD {
+        "up" => Move::ForwardD {
             leaf: port,
             input: small(list, 1),
             output: small(list, 2),
         },
-    })
+        _ => return Ok(None),
+    }))
 }
 
 /// Writes an event with a beat of channel A.

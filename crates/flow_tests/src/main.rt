@@ -1,13 +1,13 @@
-//! Moves of a network between two sources and two sinks, with a buffer on one of the two ways: each line of
-//! the input offers the moves of a cycle, and the program makes those that may be made at its start and
-//! prints what passed the ports.
+//! Moves of a network between four sources and four sinks: an edge, a buffer and a crossbar between two and
+//! two. Each line of the input offers the moves of a cycle, and the program makes those that may be made at
+//! its start, prints what passed the ports, and then the gates that the line asks for.
 #![tactic(auto)]
 
 mod beats;
 mod made;
 
 use dip_lists::Memory;
-use flow_core::{Move, Network};
+use flow_core::{Gate, Lock, Move, Network};
 use std::alloc::Global;
 use std::fmt::Write;
 use std::io;
@@ -16,9 +16,10 @@ use std::io;
 fn chosen(alloc: Global, network: &Network, line: &str) -> Result<Vec<Move>, Memory> {
     let mut steps = Vec::new(alloc);
     for offer in line.split(", ") {
-        let step = beats::step_of(alloc, offer)?;
-        if network.enabled(&step) {
-            steps.push(step)?;
+        if let Some(step) = beats::step_of(alloc, offer)? {
+            if network.enabled(&step) {
+                steps.push(step)?;
+            }
         }
     }
     Ok(steps)
@@ -51,6 +52,36 @@ fn make(network: &mut Network, step: &Move, text: &mut String) -> Result<(), Mem
     Ok(())
 }
 
+// Writes a gate: who holds it for how many beats, if anyone does, and whose turn is next.
+fn show_gate(text: &mut String, gate: Option<Gate>) -> Result<(), Memory> {
+    let Some(Gate { lock, next }) = gate else {
+        return Ok(write!(text, " none")?);
+    };
+    match lock {
+        None => Ok(write!(text, " open {next}")?),
+        Some(Lock { by, left }) => Ok(write!(text, " {by} {left} {next}")?),
+    }
+}
+
+// Writes the gates that a line asks for.
+fn show_gates(
+    alloc: Global,
+    network: &Network,
+    line: &str,
+    text: &mut String,
+) -> Result<(), Memory> {
+    for offer in line.split(", ") {
+        let (leaf, place) = beats::gate_of(alloc, offer)?;
+        if offer.starts_with("gate") {
+            show_gate(text, network.output_gate(leaf, place))?;
+        }
+        if offer.starts_with("back") {
+            show_gate(text, network.input_gate(leaf, place))?;
+        }
+    }
+    Ok(())
+}
+
 // Makes the moves of a cycle.
 fn cycle(
     alloc: Global,
@@ -61,7 +92,7 @@ fn cycle(
     for step in chosen(alloc, network, line)?.as_slice() {
         make(network, step, text)?;
     }
-    Ok(())
+    show_gates(alloc, network, line, text)
 }
 
 // Runs the cycles of the input.

@@ -18,9 +18,13 @@ may_be_cut Logical = false
 may_be_cut Get = true
 may_be_cut Intent = false
 
--- a request is cut where it has more bytes than a piece
+-- a message is cut where it may be, and has more bytes than a piece, by its op and size
+abbrev pub cuts : ℕ → Op → ℕ → Bool
+cuts most op size = may_be_cut op && nat_lt most (bytes_of size)
+
+-- so is a request
 abbrev pub is_cut : ℕ → Request → Bool
-is_cut most request = may_be_cut request.op && nat_lt most (bytes_of request.size)
+is_cut most request = cuts most request.op request.size
 
 -- the piece with a number, counted from 0, of some bytes: it begins behind the earlier ones, and has its own part of
 -- the flags and the data

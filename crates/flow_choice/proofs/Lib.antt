@@ -1,0 +1,15 @@
+pub mod Queueing
+pub mod Commuting
+pub mod Deeds
+pub mod OneWay
+pub mod Jobs
+pub mod Meeting
+pub mod FitsAfter
+pub mod Ordering
+pub mod Uses
+pub mod Choices
+pub mod Listing
+pub mod Adding
+pub mod Counts
+pub mod Worked
+pub mod Served

@@ -1,0 +1,26 @@
+ghost use Rattle.flow_choice.specs.BurstExamples.{BurstExample, StraightExample};
+ghost use Rattle.flow_choice.specs.Examples.{CycleExample, TurnsExample};
+ghost use Rattle.flow_choice.specs.Laws.{CommuteLaw};
+ghost use Rattle.flow_choice.specs.Numbered.{NumberedLaw};
+ghost use Rattle.flow_choice.specs.OrderlyExamples.{PassedExample};
+
+/// In every locally valid state of a sound plan, whatever the ports offer, the chosen moves of a cycle may be
+/// made in any order: each is enabled when it is made, and the state afterwards is the same.
+pub fn commute_law()
+    ensures { CommuteLaw }
+{}
+
+/// Who is asked first under each policy, all chosen moves of a cycle in an example in which every queue is
+/// written out, what has passed the ports in a list of moves, and whole runs with the offers of every cycle.
+pub fn choice_examples_law()
+    ensures turns { TurnsExample }
+    ensures cycle { CycleExample }
+    ensures passed { PassedExample }
+    ensures straight { StraightExample }
+    ensures bursts { BurstExample }
+{}
+
+/// The ports, leaves, inputs and outputs of a sound plan have numbers of 32 bits, as `choose` needs.
+pub fn numbered_law()
+    ensures { NumberedLaw }
+{}

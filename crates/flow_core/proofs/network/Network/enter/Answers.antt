@@ -1,0 +1,15 @@
+use Rattle.std.proofs.Common.{sym, subst, ◌≡◌, Some, IsTrue, ap, ◌∙◌}
+use Rattle.flow_core.specs.declared.moves.Move.TheVariants.{Enter}
+use Rattle.flow_core.specs.Network.{State, edge_of_port, is_enabled}
+use Rattle.flow_core.specs.Built.{IsNetwork}
+use Rattle.flow_core.proofs.Moved.{enter_carries}
+use Rattle.flow_core.proofs.Standing.{stands_put_a}
+use Rattle.flow_core.proofs.network.Network.enter.Goals as goal
+
+pub invariant_of-self : goal.invariant_of-self
+invariant_of-self c =
+    let at = sym c.in-Some.ensures in
+    let may = subst (λ (state : State). IsTrue (is_enabled state (Enter c.args.port c.args.beat c.args.tag))) (sym c.self.view_is) c.requires in
+    subst (λ new. IsNetwork c.self.inside.plan.now c.self.inside.fixed new c.self.inside.d) (sym c.put.ensures)
+    (stands_put_a c.self.inside.plan.now c.self.inside.fixed c.self.inside.a c.self.inside.d c.self.invariant c.in-Some.edge c.args.beat c.args.tag
+    (enter_carries c.self.inside.plan.now c.self.inside.a c.self.inside.d c.self.inside.gates c.args.port c.in-Some.edge c.args.beat c.args.tag (ap (λ ports. edge_of_port ports c.args.port) (sym c.as_slice.ensures) ∙ at) may))
