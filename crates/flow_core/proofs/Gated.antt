@@ -1,5 +1,5 @@
 -- The gates of a network of buffers and crossbars are those that its leaves keep.
-use Rattle.std.proofs.Common.{ℕ, ◌≡◌, List, map, Option, Some, None, refl, sym, ap, ◌∙◌}
+use Rattle.std.proofs.Common.{ℕ, ◌≡◌, List, Option, Some, None, refl, sym, ap, ◌∙◌}
 use Rattle.std.specs.Prelude.{slice_get}
 use Rattle.std.specs.Option.{option_and_then}
 use Rattle.tl_params.specs.declared.ops.Template.{Template}
@@ -12,7 +12,7 @@ use Rattle.tl_edge.specs.declared.plan.Plan.{Plan}
 use Rattle.flow_core.specs.Crossing.{Crossbar, Gates}
 use Rattle.flow_core.specs.Tags.{Held}
 use Rattle.flow_core.specs.Network.{both}
-use Rattle.flow_core.specs.Built.{network, bar_of, state_of, held_of, held_with, own_gates, kept_gates}
+use Rattle.flow_core.specs.Built.{network, bar_of, state_of, held_of, own_gates, kept_gates}
 use Rattle.flow_core.specs.Gating.{gates_in, gates_of}
 use Rattle.flow_core.proofs.Moved.{held_get}
 

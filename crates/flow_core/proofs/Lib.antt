@@ -1,6 +1,7 @@
 pub mod Limits
 pub mod Untagged
 pub mod Worked
+pub mod WorkedBursts
 pub mod Sizes
 pub mod Standing
 pub mod Passes

@@ -1,6 +1,6 @@
 -- What an edge carries: numbers of so many bits, and nothing where there is no edge.
-use Rattle.std.proofs.Common.{ℕ, ◌≡◌, ◌<◌, ◌≤◌, true, false, ◌&&◌, Some, None, slice_get, refl, sym, ap, arith, nat_lt}
-use Rattle.std.specs.Prelude.{◌^◌, ◌*◌, nat_le, unwrap_or}
+use Rattle.std.proofs.Common.{ℕ, ◌≡◌, ◌<◌, ◌≤◌, true, false, Some, None, slice_get, refl, sym, ap, arith, nat_lt}
+use Rattle.std.specs.Prelude.{◌^◌, unwrap_or}
 use Rattle.std.proofs.Math.Pow.{pow_mono}
 use Rattle.std.proofs.lemmas.Bool.{lt-ltb}
 use Rattle.std.proofs.lemmas.Bool.Decides.{nat_tests}

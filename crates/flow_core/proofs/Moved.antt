@@ -1,7 +1,7 @@
 -- What the moves of leaves are in a network of buffers and crossbars.
-use Rattle.std.proofs.Common.{ℕ, zero, suc, ◌≡◌, ◌+◌, ◌-◌, ◌<◌, Bool, true, false, ◌&&◌, cond, List, [], ◌∷◌, map, length, replicate, ◌⊎◌, inl, inr, All, Option, Some, None, is_some, IsTrue, refl, sym, ap, ◌∙◌, subst}
+use Rattle.std.proofs.Common.{ℕ, zero, suc, ◌≡◌, ◌+◌, ◌-◌, Bool, true, false, ◌&&◌, cond, List, [], ◌∷◌, map, length, replicate, ◌⊎◌, inl, inr, All, Option, Some, None, is_some, IsTrue, refl, sym, ap, ◌∙◌, subst}
 use Rattle.std.specs.Prelude.{slice_get, slice_set, ◌==◌}
-use Rattle.std.specs.Option.{option_map, option_map_or, option_and_then, option_or}
+use Rattle.std.specs.Option.{option_map, option_map_or, option_and_then}
 use Rattle.std.proofs.lemmas.List.{length-map}
 use Rattle.std.proofs.lemmas.List.Elements.{All-head, All-tail}
 use Rattle.std.proofs.lemmas.Option.{same_Some, none-some}
@@ -22,11 +22,11 @@ use Rattle.flow_core.specs.declared.moves.Move.TheVariants.{Enter, Reply, Leave,
 use Rattle.flow_core.specs.Acts.{Act, forwards, lifted, with_a_id, with_d_id}
 use Rattle.flow_core.specs.Carried.{carries_a, carries_d}
 use Rattle.flow_core.specs.Crossing.{Crossbar, Gate, Gates, goes_to, passed_at, with_out, with_in, cross_down, cross_up, crossed_down, crossed_up}
-use Rattle.flow_core.specs.Leaves.{LeafState, idle_state, down, down_alone, up, up_alone}
+use Rattle.flow_core.specs.Leaves.{LeafState, idle_state}
 use Rattle.flow_core.specs.Leaves.LeafState.{BufferState, XbarState}
-use Rattle.flow_core.specs.Tags.{Held, no_tag, tagged, tagged_down, tag_in_hand, held_down, held_down_alone, held_up, held_up_alone}
-use Rattle.flow_core.specs.Queues.{queue, head_in, takes, taken, may_flow, has_room_at, flowed}
-use Rattle.flow_core.specs.Network.{State, Part, Job, edge_of_port, port_job_a, port_job_d, put_job_a, put_job_d, by_head, by_itself, part_between, both, part_down, part_up, part_a, part_d, forwarding, absorbing, leaf_job_a, leaf_job_d, may_do, is_enabled, done, state_after, network_at_start, held_at_start}
+use Rattle.flow_core.specs.Tags.{Held, no_tag, tagged, tagged_down, held_down, held_down_alone, held_up, held_up_alone}
+use Rattle.flow_core.specs.Queues.{queue, head_in, takes, taken, has_room_at}
+use Rattle.flow_core.specs.Network.{State, Part, Job, edge_of_port, port_job_a, port_job_d, put_job_a, put_job_d, by_head, part_between, both, part_down, part_up, part_a, part_d, forwarding, absorbing, leaf_job_a, leaf_job_d, may_do, is_enabled, done, state_after, network_at_start, held_at_start}
 use Rattle.flow_core.specs.Built.{IsBuilt, IsBuiltLeaf, open_gates, network, bar_of, state_of, held_of, held_with, gate_down, bar_down, gate_up, bar_up, leaf_down, leaf_up, head_passes, edge_passes, passing_down, passing_up, after_out, after_in, passed_out, passed_in, passed_on}
 
 -- ---- the crossbar's acts

@@ -1,17 +1,9 @@
 -- What a move of a leaf is in a network of buffers and crossbars.
-use Rattle.std.proofs.Common.{ℕ, zero, suc, ◌≡◌, ◌<◌, Bool, true, false, ◌&&◌, cond, List, [], ◌∷◌, map, Option, Some, None, is_some, refl, sym, ap, ◌∙◌}
-use Rattle.std.specs.Prelude.{slice_get, slice_set, unwrap_or, ◌==◌}
-use Rattle.std.specs.Option.{option_map, option_map_or, option_and_then, option_or}
-use Rattle.std.proofs.lemmas.Option.{slice_get-map, same_Some, none-some}
-use Rattle.dip_sets.specs.declared.ids.IdRange.{IdRange}
-use Rattle.dip_sets.specs.Ids.{has_id}
-use Rattle.tl_params.specs.declared.ops.Template.{Template}
-use Rattle.tl_params.specs.declared.ops.Template.TheVariants.{Buffer, Width, Fragmenter, Shrinker, Xbar}
-use Rattle.tl_params.specs.declared.ports.Slave.{Slave}
+use Rattle.std.proofs.Common.{ℕ, ◌≡◌, false, Option, Some, None, is_some, refl, sym, ap, ◌∙◌}
+use Rattle.std.specs.Prelude.{slice_get, unwrap_or}
+use Rattle.std.specs.Option.{option_map, option_and_then}
+use Rattle.std.proofs.lemmas.Option.{slice_get-map}
 use Rattle.tl_params.specs.Owners.{owner}
-use Rattle.tl_edge.specs.declared.beat.ABeat.{ABeat}
-use Rattle.tl_edge.specs.declared.beat.DBeat.{DBeat}
-use Rattle.tl_edge.specs.declared.beat.Tag.{Tag}
 use Rattle.tl_edge.specs.declared.plan.Leaf.{Leaf}
 use Rattle.tl_edge.specs.declared.plan.PlanEdge.{PlanEdge}
 use Rattle.tl_edge.specs.declared.plan.Plan.{Plan}

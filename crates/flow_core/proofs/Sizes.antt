@@ -1,20 +1,17 @@
 -- The sizes and ids of waiting beats in a network of buffers and crossbars.
-use Rattle.std.proofs.Common.{ℕ, zero, suc, ◌≡◌, ◌+◌, ◌<◌, ◌≤◌, inl, inr, List, [], ◌∷◌, ◌++◌, map, length, drop, replicate, max, All, Option, Some, None, IsTrue, refl, sym, ap, ◌∙◌, subst, arith}
+use Rattle.std.proofs.Common.{ℕ, zero, suc, ◌≡◌, ◌+◌, ◌<◌, ◌≤◌, inl, inr, List, [], ◌∷◌, ◌++◌, map, length, drop, replicate, All, Option, Some, None, IsTrue, refl, sym, ap, ◌∙◌, subst, arith}
 use Rattle.std.proofs.Math.ListN.{set}
-use Rattle.std.specs.Prelude.{slice_get, unwrap_or, slice_index_or}
+use Rattle.std.specs.Prelude.{slice_get, unwrap_or}
 use Rattle.std.specs.Option.{option_map}
 use Rattle.std.proofs.lemmas.Bool.{cases_eq, cases_lt}
 use Rattle.std.proofs.lemmas.List.{get_or-set_same, get_or-set_other, set_past}
-use Rattle.std.proofs.lemmas.List.Elements.{All-nil, All-cons, All-head, All-tail, All-map, All-append, All-drop, All-get_or}
+use Rattle.std.proofs.lemmas.List.Elements.{All-nil, All-cons, All-head, All-map, All-append, All-drop, All-get_or}
 use Rattle.std.proofs.lemmas.Option.{slice_get-map, slice_get_within, get_or_from_slice_get, same_Some, none-some}
 use Rattle.dip_sets.specs.declared.ids.IdRange.{IdRange}
 use Rattle.dip_sets.specs.Assignments.{assigned}
 use Rattle.tl_params.specs.declared.ops.Template.{Template}
 use Rattle.tl_params.specs.declared.ops.Template.TheVariants.{Buffer, Xbar}
 use Rattle.tl_params.specs.Arguments.{is_width}
-use Rattle.tl_edge.specs.declared.beat.ABeat.{ABeat}
-use Rattle.tl_edge.specs.declared.beat.DBeat.{DBeat}
-use Rattle.tl_edge.specs.declared.beat.Tag.{Tag}
 use Rattle.tl_edge.specs.declared.plan.Leaf.{Leaf}
 use Rattle.tl_edge.specs.declared.plan.PlanEdge.{PlanEdge}
 use Rattle.tl_edge.specs.declared.plan.Plan.{Plan}
@@ -22,7 +19,7 @@ use Rattle.tl_edge.specs.Plans.{edge_at, no_edge, ins_of, outs_of}
 use Rattle.tl_edge.specs.SoundPlans.{ids_of, moved_end}
 use Rattle.flow_core.specs.declared.crossing.Fixed.{Fixed}
 use Rattle.flow_core.specs.Queues.{queue, head_in, taken, put_last}
-use Rattle.flow_core.specs.Built.{IsBuilt, IsBuiltLeaf, KeepsIds, MovesEachId, AreAll, IsSmallA, IsSmallD, fixed_of}
+use Rattle.flow_core.specs.Built.{IsBuilt, IsBuiltLeaf, MovesEachId, AreAll, fixed_of}
 
 -- ---- lists
 

@@ -1,5 +1,5 @@
 -- What holds between moves holds after each.
-use Rattle.std.proofs.Common.{ℕ, ◌≡◌, ◌+◌, ◌<◌, ◌≤◌, ◌⊎◌, inl, inr, Bool, true, false, cond, List, [], replicate, map, length, Option, Some, None, All, refl, sym, ap, ◌∙◌, subst, arith}
+use Rattle.std.proofs.Common.{ℕ, ◌≡◌, ◌+◌, ◌<◌, ◌≤◌, Bool, true, false, cond, List, length, Option, Some, None, All, refl, sym, ap, ◌∙◌, subst, arith}
 use Rattle.std.specs.Prelude.{slice_get, ◌==◌, ◌&&◌}
 use Rattle.std.specs.Option.{option_map, option_and_then}
 use Rattle.std.proofs.lemmas.Bool.Decides.{nat_tests}
@@ -22,8 +22,8 @@ use Rattle.flow_core.specs.Carried.{carries_a, carries_d}
 use Rattle.flow_core.specs.Crossing.{Crossbar, Gate, Gates, goes_to, passed_at}
 use Rattle.flow_core.specs.Network.{both}
 use Rattle.flow_core.specs.Queues.{queue, head_in, taken, put_last}
-use Rattle.flow_core.specs.Built.{IsBuilt, IsBuiltLeaf, AreAll, IsNetwork, IsSmallA, IsSmallD, bar_of, gate_down, bar_down, gate_up, bar_up, leaf_down, leaf_up, head_passes, edge_passes, passing_down, passing_up, passed_on}
-use Rattle.flow_core.proofs.Sizes.{all_at, mapped_at, built_leaf, moved_below, queued, taken_queued, put_queued, none_queued}
+use Rattle.flow_core.specs.Built.{IsBuilt, IsBuiltLeaf, AreAll, IsNetwork, IsSmallA, IsSmallD, bar_of, gate_down, bar_down, gate_up, leaf_down, leaf_up, head_passes, edge_passes, passing_down, passing_up, passed_on}
+use Rattle.flow_core.proofs.Sizes.{all_at, mapped_at, built_leaf, moved_below, queued, taken_queued, put_queued}
 
 -- ---- what is put from outside
 

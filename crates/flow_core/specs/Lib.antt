@@ -10,6 +10,7 @@ pub mod Carried
 pub mod Network
 pub mod ExampleBeats
 pub mod Examples
+pub mod ExampleBursts
 pub mod Built
 pub mod ExampleMoves
 pub mod Gating

@@ -1,3 +1,10 @@
+ghost use Rattle.flow_core.specs.ExampleBursts.{
+  CrossbarBursts,
+  FragmenterBursts,
+  LinesExample,
+  ShrinkerBursts,
+  WidthBursts,
+};
 ghost use Rattle.flow_core.specs.ExampleMoves.{CuttingExample, MovesExample};
 ghost use Rattle.flow_core.specs.Examples.{
   CrossbarExample,
@@ -19,6 +26,15 @@ pub fn examples_law()
     ensures shrinker { ShrinkerExample }
     ensures width { WidthExample }
     ensures fragmenter { FragmenterExample }
+{}
+
+/// What each machine does on messages of several beats, and as a leaf with the tags of its beats.
+pub fn bursts_law()
+    ensures crossbar { CrossbarBursts }
+    ensures shrinker { ShrinkerBursts }
+    ensures width { WidthBursts }
+    ensures fragmenter { FragmenterBursts }
+    ensures lines { LinesExample }
 {}
 
 /// What single moves do in examples in which every queue is written out.

@@ -1,4 +1,4 @@
-use Rattle.std.proofs.Common.{ℕ, ◌≡◌, take, map}
+use Rattle.std.proofs.Common.{◌≡◌, take, map}
 use Rattle.tl_edge.specs.Plans.{edge_at}
 use Rattle.tl_edge.specs.SoundPlans.{ids_of}
 use Rattle.flow_core.proofs.ways.id_counts.Given as goal

@@ -1,4 +1,4 @@
-use Rattle.std.proofs.Common.{sym, subst, ◌≡◌, Some, IsTrue, ap, ◌∙◌}
+use Rattle.std.proofs.Common.{sym, subst, IsTrue, ap, ◌∙◌}
 use Rattle.flow_core.specs.declared.moves.Move.TheVariants.{Enter}
 use Rattle.flow_core.specs.Network.{State, edge_of_port, is_enabled}
 use Rattle.flow_core.specs.Built.{IsNetwork}
