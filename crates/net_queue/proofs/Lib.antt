@@ -5,5 +5,6 @@ pub mod Opening
 pub mod Listed
 pub mod Closing
 pub mod Made
+pub mod Fitted
 pub mod Guarded
 pub mod Relations

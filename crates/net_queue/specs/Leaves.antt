@@ -1,19 +1,24 @@
 -- What it means that the wires of a leaf are the leaf.
-use Rattle.std.specs.Prelude.{◌≡◌, ℕ, Bool, true, false, cond, List, map, Option, Some, None, is_some, slice_index_or}
-use Rattle.std.specs.Option.{option_map}
+use Rattle.std.specs.Prelude.{◌≡◌, ℕ, ◌<◌, Bool, true, false, cond, List, [], length, map, Option, Some, None, is_some, slice_get, slice_index_or}
+use Rattle.std.specs.Option.{option_map, option_map_or}
+use Rattle.tl_params.specs.declared.ops.Template.{Template}
 use Rattle.tl_edge.specs.declared.beat.ABeat.{ABeat}
 use Rattle.tl_edge.specs.declared.beat.DBeat.{DBeat}
+use Rattle.tl_edge.specs.declared.plan.Leaf.{Leaf}
+use Rattle.tl_edge.specs.declared.plan.Plan.{Plan}
 use Rattle.tl_edge.specs.declared.plan.PlanEdge.{PlanEdge}
-use Rattle.tl_edge.specs.Plans.{no_edge}
+use Rattle.tl_edge.specs.Plans.{edge_at, no_edge}
 use Rattle.tl_edge.specs.Wires.{a_fields, a_widths, d_fields, d_widths, FitWires}
-use Rattle.net_build.specs.Bits.{highs, wire_values}
-use Rattle.net_build.specs.Built.{Built}
+use Rattle.net_build.specs.Bits.{AreBits, highs, wire_values}
+use Rattle.net_build.specs.Built.{Built, IsBit}
 use Rattle.net_build.specs.Values.{high}
 use Rattle.net_queue.specs.declared.types.EdgeWires.{EdgeWires}
 use Rattle.net_queue.specs.declared.types.LeafWires.{LeafWires}
 use Rattle.net_queue.specs.declared.types.Put.{Put}
 use Rattle.net_queue.specs.Machines.{Machine, IsMachine}
-use Rattle.net_queue.specs.Queues.{shown_at}
+use Rattle.net_queue.specs.declared.types.Queue.{Queue}
+use Rattle.net_queue.specs.Queues.{IsOpen, shown_at}
+use Rattle.net_queue.specs.Rows.{AreAlike, row_widths}
 
 -- ---- a cycle of a leaf, with beats A on channel A and D on channel D
 
@@ -99,6 +104,58 @@ done_at wires v = record {
   take_d = highs v wires.take_d;
   put_a = map (put_at v) wires.put_a;
 }
+
+-- ---- at a leaf of a plan
+
+-- the edges from which its requests come
+abbrev pub ins_at : Plan → ℕ → List ℕ
+ins_at plan leaf = option_map_or (λ (at : Leaf). at.ins) (slice_get plan.leaves leaf) []
+
+-- the edges to which they go
+abbrev pub outs_at : Plan → ℕ → List ℕ
+outs_at plan leaf = option_map_or (λ (at : Leaf). at.outs) (slice_get plan.leaves leaf) []
+
+-- the plan has the leaf, of this template
+pub record IsOfTemplate (plan : Plan) (leaf : ℕ) (template : Template) : Type 0 where
+  pub at : Leaf
+  pub is : slice_get plan.leaves leaf ≡ Some at
+  pub kind : at.template ≡ template
+
+-- the open queues of an edge, with the widths of its wires
+pub record IsEdge (b : Built) (edge : PlanEdge) (wires : EdgeWires) : Type 0 where
+  pub a : IsOpen b wires.a
+  pub d : IsOpen b wires.d
+  pub a_widths : row_widths wires.a.head ≡ a_widths edge.bundle
+  pub d_widths : row_widths wires.d.head ≡ d_widths edge.bundle
+
+-- the open queues of some edges of a plan, in order
+pub record AreEdges (b : Built) (plan : Plan) (edges : List ℕ) (wires : List EdgeWires) : Type 0 where
+  pub long : length wires ≡ length edges
+  pub each : (k d : ℕ) (e : EdgeWires) → k < length wires
+      → IsEdge b (edge_at plan (slice_index_or edges k d)) (slice_index_or wires k e)
+
+-- a put into a queue has a bit, and a wire of its width for each field
+pub record IsPutInto (b : Built) (queue : Queue) (put : Put) : Type 0 where
+  pub valid : IsBit b put.valid
+  pub items : AreAlike b queue.head put.items
+
+-- the wires of a leaf can be taken from the queues of its edges and put into them
+pub record AreWiresOf (b : Built) (ins outs : List EdgeWires) (wires : LeafWires) : Type 0 where
+  pub take_a_long : length wires.take_a ≡ length ins
+  pub put_d_long : length wires.put_d ≡ length ins
+  pub take_d_long : length wires.take_d ≡ length outs
+  pub put_a_long : length wires.put_a ≡ length outs
+  pub take_a : AreBits b wires.take_a
+  pub take_d : AreBits b wires.take_d
+  pub put_d : (k : ℕ) (e : EdgeWires) (p : Put) → k < length ins
+      → IsPutInto b (slice_index_or ins k e).d (slice_index_or wires.put_d k p)
+  pub put_a : (k : ℕ) (e : EdgeWires) (p : Put) → k < length outs
+      → IsPutInto b (slice_index_or outs k e).a (slice_index_or wires.put_a k p)
+
+-- whatever the machine puts fits the wires of the edges of a leaf
+abbrev pub PutsFitAt : {S : Type 0} → Plan → ℕ → Machine S LeafView LeafDone → S → LeafView → Type 0
+PutsFitAt plan leaf m s x =
+    PutsFit (map (edge_at plan) (ins_at plan leaf)) (map (edge_at plan) (outs_at plan leaf)) (m.does s x)
 
 -- the wires between the queues of these edges are the leaf
 abbrev pub IsLeaf : {S : Type 0} → Built → List EdgeWires → List EdgeWires → LeafWires → Machine S LeafView LeafDone
