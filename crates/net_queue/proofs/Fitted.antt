@@ -1,7 +1,7 @@
 -- Wires of another width with the same values.
-use Rattle.std.proofs.Common.{◌≡◌, ℕ, zero, suc, ◌+◌, ◌-◌, ◌*◌, ◌/◌, ◌%◌, ◌^◌, ◌<◌, ◌≤◌, List, [], ◌∷◌, ◌++◌, length, get_or, refl, sym, ap, ◌∙◌, subst, arith, inl, inr}
+use Rattle.std.proofs.Common.{◌≡◌, ℕ, suc, ◌+◌, ◌-◌, ◌*◌, ◌/◌, ◌%◌, ◌^◌, ◌<◌, ◌≤◌, List, [], ◌∷◌, ◌++◌, length, get_or, refl, sym, ap, ◌∙◌, subst, arith, inl, inr}
 use Rattle.std.proofs.lemmas.Bool.{cases_lt}
-use Rattle.std.proofs.lemmas.List.{get_or_append_left, get_or_push, length_push, get_or_default, take_all}
+use Rattle.std.proofs.lemmas.List.{get_or_append_left, get_or_push, length_push, get_or_default}
 use Rattle.tl_edge.specs.Wires.{FitWires}
 use Rattle.net_build.specs.declared.types.Wire.{Wire}
 use Rattle.net_build.specs.Bits.{wire_values}
@@ -9,7 +9,7 @@ use Rattle.net_build.specs.Built.{Built}
 use Rattle.net_build.specs.Registers.{AreWires}
 use Rattle.net_build.specs.Values.{Adds, Later, Means, Solves}
 use Rattle.net_build.proofs.OpenedLists.{later_same}
-use Rattle.net_queue.specs.Rows.{KeepsRow, KeepsValue, row_widths}
+use Rattle.net_queue.specs.Rows.{KeepsRow, KeepsValue}
 
 pub adds_same : (b : Built) → Adds b b
 adds_same b = record { later = later_same b; inputs = refl; outputs = refl; undriven = refl }
@@ -65,7 +65,7 @@ row_kept b xs ws widths l m h g = record { at = λ v s f. same v s xs ws widths 
     same v s (x ∷ xs) (w ∷ ws) (n ∷ widths) l m h g f =
         ap (λ (y : ℕ). y ∷ wire_values v ws) ((g.each 0 x w (omega arith)).at v s (subst (λ (k : ℕ). v x.number < 2 ^ k) (sym (h.each 0 w (omega arith)).1) f.0))
         ∙ ap (λ (ys : List ℕ). v x.number ∷ ys)
-          (same v s xs ws widths (omega (arith, l)) (omega (arith, m))
-          (record { each = λ k d j. h.each (suc k) d (omega (arith, j)) })
-          (record { each = λ k d e j. g.each (suc k) d e (omega (arith, j)) })
-          f.1)
+        (same v s xs ws widths (omega (arith, l)) (omega (arith, m))
+        (record { each = λ k d j. h.each (suc k) d (omega (arith, j)) })
+        (record { each = λ k d e j. g.each (suc k) d e (omega (arith, j)) })
+        f.1)

@@ -1,0 +1,6 @@
+//! The buffer in wires.
+#![tactic(auto)]
+
+mod buffer;
+
+pub use buffer::build_buffer;
