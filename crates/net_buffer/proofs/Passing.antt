@@ -24,9 +24,9 @@ use Rattle.net_queue.specs.Leaves.{Done, IsLeaf, IsOfTemplate, LeafView, View, d
 use Rattle.net_queue.specs.Queues.{shown_at}
 use Rattle.net_queue.specs.Rows.{KeepsRow, row_widths}
 use Rattle.net_queue.proofs.Relations.{machine_of}
-use Rattle.net_buffer.specs.Buffers.{buffer}
+use Rattle.net_buffer.specs.Buffers.{BufferLaw, buffer_machine}
 
--- what a buffer does on a channel
+-- what a buffer_machine does on a channel
 abbrev pub act_of : {B : Type 0} → Option B → Bool → Option (Act B LeafState)
 act_of head room = act_by None (λ beat. Some (forwards beat BufferState)) head room
 
@@ -41,9 +41,18 @@ next_by : (x : LeafView) (next : LeafState) (c : Bool) → next ≡ BufferState 
 next_by x next false e = e
 next_by x next true e = subst (λ (s : LeafState). state_by s (act_d s x) ≡ BufferState) (sym e) (act_next (get_or x.heads_d 0 None) (get_or x.room_d 0 false))
 
-stays : (x : LeafView) (s : LeafState) → s ≡ BufferState → buffer.after s x ≡ BufferState
-stays x s e = subst (λ (s : LeafState). buffer.after s x ≡ BufferState) (sym e)
+stays : (x : LeafView) (s : LeafState) → s ≡ BufferState → buffer_machine.after s x ≡ BufferState
+stays x s e = subst (λ (s : LeafState). buffer_machine.after s x ≡ BufferState) (sym e)
     (next_by x (state_by BufferState (act_a BufferState 0 x)) (is_some (act_d BufferState x)) (act_next (get_or x.heads_a 0 None) (get_or x.room_a 0 false)))
+
+pub as_written : BufferLaw
+as_written = record {
+  both = λ x y. refl;
+  down = λ x y. refl;
+  up = λ x y. refl;
+  empty = λ below above. refl;
+  stays = λ x. stays x BufferState refl;
+}
 
 -- ---- one channel
 
@@ -95,8 +104,8 @@ same_done a e b f c g d h p q r s = ap (λ x. done x b c d) p ∙ ap (λ x. done
 
 -- what is put fits these widths
 pub record Fit (wide_a wide_d : List ℕ) (s : LeafState) (x : LeafView) : Type 0 where
-  pub down : (beat : ABeat) → get_or (buffer.does s x).put_a 0 None ≡ Some beat → FitWires (a_fields beat) wide_a
-  pub up : (beat : DBeat) → get_or (buffer.does s x).put_d 0 None ≡ Some beat → FitWires (d_fields beat) wide_d
+  pub down : (beat : ABeat) → get_or (buffer_machine.does s x).put_a 0 None ≡ Some beat → FitWires (a_fields beat) wide_a
+  pub up : (beat : DBeat) → get_or (buffer_machine.does s x).put_d 0 None ≡ Some beat → FitWires (d_fields beat) wide_d
 
 abbrev pub wires_of : Put → Put → LeafWires
 wires_of down up = record { take_a = down.valid ∷ []; put_a = down ∷ []; take_d = up.valid ∷ []; put_d = up ∷ [] }
@@ -108,7 +117,7 @@ does_so : (b : Built) (above below : EdgeWires) (down up : Put)
     → KeepsRow b below.d.head (row_widths above.d.head) up.items
     → (v : ℕ → ℕ) (x : LeafView) → Solves b v → view_at (above ∷ []) (below ∷ []) v ≡ view_fields x
     → Fit (row_widths below.a.head) (row_widths above.d.head) BufferState x
-    → done_at (wires_of down up) v ≡ done_fields (buffer.does BufferState x)
+    → done_at (wires_of down up) v ≡ done_fields (buffer_machine.does BufferState x)
 does_so b above below down up td tu kd ku v x s e f =
     let ha = head_of (option_map a_fields) (shown_at above.a v).head x.heads_a None (ap (λ (y : View (List ℕ) (List ℕ)). y.heads_a) e) in
     let rd = room_of (shown_at above.d v).room x.room_d (ap (λ (y : View (List ℕ) (List ℕ)). y.room_d) e) in
@@ -128,12 +137,12 @@ pub is_buffer : (b : Built) (above below : EdgeWires) (down up : Put) (fits : Le
     → Tells b up.valid (λ v. high v below.d.valid && high v above.d.ready)
     → KeepsRow b above.a.head (row_widths below.a.head) down.items
     → KeepsRow b below.d.head (row_widths above.d.head) up.items
-    → IsLeaf b (above ∷ []) (below ∷ []) (wires_of down up) buffer fits
+    → IsLeaf b (above ∷ []) (below ∷ []) (wires_of down up) buffer_machine fits
 is_buffer b above below down up fits k td tu kd ku =
-    machine_of buffer fits view_fields done_fields (view_at (above ∷ []) (below ∷ [])) (done_at (wires_of down up)) b (λ v s. s ≡ BufferState) (record {
+    machine_of buffer_machine fits view_fields done_fields (view_at (above ∷ []) (below ∷ [])) (done_at (wires_of down up)) b (λ v s. s ≡ BufferState) (record {
       starts = λ v a. refl;
       does = λ v s x q z h e f.
-          subst (λ (s : LeafState). fits s x → done_at (wires_of down up) v ≡ done_fields (buffer.does s x)) (sym h)
+          subst (λ (s : LeafState). fits s x → done_at (wires_of down up) v ≡ done_fields (buffer_machine.does s x)) (sym h)
           (λ g. does_so b above below down up td tu kd ku v x q e (k BufferState x g)) f;
       nexts = λ v u s x q t z h e f. stays x s h;
     })

@@ -14,7 +14,7 @@ ghost use Rattle.net_queue.specs.Leaves.{
 };
 ghost use Rattle.net_queue.specs.Queues.{IsOpen};
 ghost use Rattle.net_queue.specs.Rows.{KeepsRow, row_widths};
-ghost use Rattle.net_buffer.specs.Buffers.{buffer};
+ghost use Rattle.net_buffer.specs.Buffers.{buffer_machine};
 
 use dip_lists::{Items, Memory};
 use net_build::{Builder, both};
@@ -48,8 +48,8 @@ fn pass(alloc: Global, builder: &mut Builder, from: &Queue, to: &Queue) -> Resul
     Ok(Put { valid, items })
 }
 
-/// Builds a buffer between the open queues of its in edge and its out edge: where there are a head and room, a
-/// request goes down and a response up. It adds no port and drives no earlier register.
+/// Builds a buffer between the open queues of its in edge and its out edge: where there are a head and room,
+/// a request goes down and a response up. It adds no port and drives no earlier register.
 pub fn build_buffer(
     alloc: Global,
     builder: &mut Builder,
@@ -65,7 +65,7 @@ pub fn build_buffer(
     ensures adds { IfOk result (λ _. Adds builder.old builder.new) }
     ensures wires { IfOk result (λ w. AreWiresOf builder.new ins.now outs.now w) }
     ensures leaf { IfOk result
-        (λ w. IsLeaf builder.new ins.now outs.now w buffer (PutsFitAt plan.now leaf buffer)) }
+        (λ w. IsLeaf builder.new ins.now outs.now w buffer_machine (PutsFitAt plan.now leaf buffer_machine)) }
 {
     let above = &ins[0];
     let below = &outs[0];

@@ -7,7 +7,7 @@ use Rattle.net_build.specs.Built.{Built, IsRegister}
 use Rattle.net_build.specs.Registers.{AllTake}
 use Rattle.net_build.specs.Values.{AtStart, Solves, Tells, Ticks, high}
 use Rattle.net_queue.specs.declared.types.Queue.{Queue}
-use Rattle.net_queue.specs.Queues.{IsListOfTwo, MayMove, Moved, Shown, moved_at, moved_on, registers, shown_of}
+use Rattle.net_queue.specs.Queues.{IsListOfTwo, MayMove, Moved, Shown, moved_at, moved_on, queue_registers, shown_of}
 
 -- ---- on plain values
 
@@ -108,7 +108,7 @@ idle b w v r a = ap (λ (n : ℕ). n == 1) (a.holds w.number _ r.at refl)
 pub list_of_two : (b : Built) (q : Queue) (push pop kept valid full : Wire) (items heads lasts : List Wire)
     → IsRegister b q.valid → IsRegister b q.full
     → length heads ≡ length q.head → length lasts ≡ length q.last
-    → AllTake b (registers q) (valid ∷ full ∷ heads ++ lasts)
+    → AllTake b (queue_registers q) (valid ∷ full ∷ heads ++ lasts)
     → Tells b q.ready (λ v. not (high v q.full))
     → Tells b kept (λ v. high v q.valid && not (high v pop))
     → Tells b valid (λ v. high v kept || (high v q.full || high v push))

@@ -11,7 +11,7 @@ use Rattle.net_build.proofs.OpenedLists.{all_undriven_adds, all_undriven_opens, 
 use Rattle.net_build.proofs.Steps.{bit_adds, later_later, tells_adds, undriven_opens}
 use Rattle.net_queue.proofs.Alike.{alike_adds}
 use Rattle.net_queue.specs.declared.types.Queue.{Queue}
-use Rattle.net_queue.specs.Queues.{DependsOnRegisters, IsOpen, registers}
+use Rattle.net_queue.specs.Queues.{DependsOnRegisters, IsOpen, queue_registers}
 
 pub undriven_cons : (b : Built) (w : Wire) (ws : List Wire) → IsUndriven b w → AreUndriven b ws → AreUndriven b (w ∷ ws)
 undriven_cons b w ws h g = record {
@@ -95,7 +95,7 @@ open_adds old new q g o = record {
   valid = bit_adds old new q.valid g o.valid;
   full = bit_adds old new q.full g o.full;
   alike = alike_adds old new q.head q.last g o.alike;
-  undriven = all_undriven_adds old new (registers q) g o.undriven;
+  undriven = all_undriven_adds old new (queue_registers q) g o.undriven;
   distinct = o.distinct;
   room = tells_adds old new q.ready _ g o.room;
 }

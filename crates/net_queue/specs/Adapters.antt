@@ -24,7 +24,11 @@ act_by alone act head room =
 -- on channel A, with an id where the leaf gives one
 abbrev pub act_a : LeafState → ℕ → LeafView → Option (Act ABeat LeafState)
 act_a leaf id x =
-    act_by (down_alone leaf id 0 0) (down leaf id 0 0) (slice_index_or x.heads_a 0 None) (slice_index_or x.room_a 0 false)
+    act_by
+    (down_alone leaf id 0 0)
+    (down leaf id 0 0)
+    (slice_index_or x.heads_a 0 None)
+    (slice_index_or x.room_a 0 false)
 
 -- on channel D
 abbrev pub act_d : LeafState → LeafView → Option (Act DBeat LeafState)
@@ -43,8 +47,8 @@ put_by act = option_and_then (λ (made : Act _ _). made.put) act
 abbrev pub state_by : {B S : Type 0} → S → Option (Act B S) → S
 state_by leaf act = option_map_or (λ (made : Act _ _). made.next) act leaf
 
--- The acts that can be made at the start of the cycle are made, that on channel A before that on channel D. On channel A
--- the leaf goes by an id that its state gives: a shrinker's new id, and 0 elsewhere.
+-- The acts that can be made at the start of the cycle are made, that on channel A before that on channel D. On channel
+-- A the leaf goes by an id that its state gives: a shrinker's new id, and 0 elsewhere.
 abbrev pub adapter : LeafState → (LeafState → ℕ) → Machine LeafState LeafView LeafDone
 adapter idle id = record {
   idle = idle;

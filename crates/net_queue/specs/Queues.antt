@@ -47,8 +47,8 @@ pub record MovesLaw (B : Type 0) : Type 0 where
 -- ---- in wires
 
 -- its registers: whether there is a head, whether there is a second item, and the fields of both
-abbrev pub registers : Queue → List Wire
-registers q = q.valid ∷ q.full ∷ q.head ++ q.last
+abbrev pub queue_registers : Queue → List Wire
+queue_registers q = q.valid ∷ q.full ∷ q.head ++ q.last
 
 -- the queue is open: its registers are there and none is driven yet, and it has room where there is no second item
 pub record IsOpen (b : Built) (q : Queue) : Type 0 where
@@ -56,8 +56,8 @@ pub record IsOpen (b : Built) (q : Queue) : Type 0 where
   pub valid : IsBit b q.valid
   pub full : IsBit b q.full
   pub alike : AreAlike b q.head q.last
-  pub undriven : AreUndriven b (registers q)
-  pub distinct : AreDistinct (registers q)
+  pub undriven : AreUndriven b (queue_registers q)
+  pub distinct : AreDistinct (queue_registers q)
   pub room : Tells b q.ready (λ v. not (high v q.full))
 
 -- in two cycles in which all registers hold the same, the queue shows the same, whatever the inputs are
@@ -67,7 +67,8 @@ pub record DependsOnRegisters (b : Built) (q : Queue) : Type 0 where
       → (v q.ready.number ≡ u q.ready.number) × (v q.valid.number ≡ u q.valid.number)
       × (wire_values v q.head ≡ wire_values u q.head)
 
--- The registers hold a list of at most two, each item as the values of its fields. What they hold besides means nothing.
+-- The registers hold a list of at most two, each item as the values of its fields. What they hold besides means
+-- nothing.
 abbrev pub Holds : Queue → (ℕ → ℕ) → List (List ℕ) → Type 0
 Holds q v [] = (high v q.valid ≡ false) × (high v q.full ≡ false)
 Holds q v (x ∷ []) = (high v q.valid ≡ true) × (high v q.full ≡ false) × (wire_values v q.head ≡ x)

@@ -5,7 +5,7 @@ ghost use Rattle.net_build.specs.Values.{Adds, Tells, high};
 use dip_lists::Memory;
 use net_build::{Builder, Wire, both, either, inverse};
 
-// 1 where the head is there and stays.
+/// 1 where the head is there and stays.
 #[tactic(auto, using(net_build::proofs::Steps::steps))]
 pub fn kept(builder: &mut Builder, valid: Wire, pop: Wire) -> Result<Wire, Memory>
     requires { IsBit builder.old valid × IsBit builder.old pop }
@@ -27,7 +27,7 @@ pub struct Filling {
     pub full: Wire,
 }
 
-// By whether the head stays, whether there is a second item, and whether one is put.
+/// By whether the head stays, whether there is a second item, and whether one is put.
 #[tactic(auto, using(net_build::proofs::Steps::steps))]
 pub fn next_filling(
     builder: &mut Builder,

@@ -10,7 +10,8 @@ pub fn moves_law()
     ensures responses { MovesLaw (DBeat × Tag) }
 {}
 
-/// Whatever its state is, a leaf with one in edge and one out edge puts only with room, and takes only a head.
+/// Whatever its state is, a leaf with one in edge and one out edge puts only with room and takes only a
+/// head.
 pub fn guarded_law()
     ensures { AdaptersAreGuarded }
 {}

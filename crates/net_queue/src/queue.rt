@@ -4,7 +4,7 @@ ghost use Rattle.net_build.specs.Built.{IsBit};
 ghost use Rattle.net_build.specs.Registers.{AreDistinct, AreUndriven, AreWires, DrivesAll, numbers};
 ghost use Rattle.net_build.specs.Values.{Opens};
 ghost use Rattle.net_queue.specs.Opened.{list_of};
-ghost use Rattle.net_queue.specs.Queues.{DependsOnRegisters, IsListOfTwo, IsOpen, registers};
+ghost use Rattle.net_queue.specs.Queues.{DependsOnRegisters, IsListOfTwo, IsOpen, queue_registers};
 ghost use Rattle.net_queue.specs.Rows.{AreAlike};
 
 use crate::flags::{kept, next_filling};
@@ -51,7 +51,7 @@ fn open_registers(builder: &mut Builder, widths: &[u32]) -> Result<Registers, Me
 /// it is closed.
 pub fn open_queue(builder: &mut Builder, widths: &[u32]) -> Result<Queue, Memory>
     requires { All IsWidth widths.now }
-    ensures opens { IfOk result (λ q. Opens builder.old builder.new (numbers (registers q))) }
+    ensures opens { IfOk result (λ q. Opens builder.old builder.new (numbers (queue_registers q))) }
     ensures open { IfOk result (λ q. IsOpen builder.new q) }
     ensures long { IfOk result (λ q. length q.head ≡ length widths.now) }
     ensures widths { IfOk result (λ q. AreWires builder.new widths.now q.head) }
@@ -87,7 +87,7 @@ pub fn close_queue(
     requires open { IsOpen builder.old queue }
     requires bits { IsBit builder.old push × IsBit builder.old pop }
     requires items { AreAlike builder.old queue.head items.now }
-    ensures drives { IfOk result (λ _. DrivesAll builder.old builder.new (numbers (registers queue))) }
+    ensures drives { IfOk result (λ _. DrivesAll builder.old builder.new (numbers (queue_registers queue))) }
     ensures list { IfOk result (λ _. IsListOfTwo builder.new queue push items.now pop) }
 {
     let head = queue.head.as_slice();

@@ -6,7 +6,7 @@ use Rattle.net_build.specs.Values.{high}
 use Rattle.net_build.proofs.DrivenLists.{drives_all_after}
 use Rattle.net_build.proofs.OpenedLists.{all_undriven_adds}
 use Rattle.net_build.proofs.Steps.{adds_adds, bit_adds, later_later, register_later, tells_later}
-use Rattle.net_queue.specs.Queues.{registers}
+use Rattle.net_queue.specs.Queues.{queue_registers}
 use Rattle.net_queue.specs.Rows.{AreAlike}
 use Rattle.net_queue.proofs.Alike.{alike_adds, alike_back, alike_both}
 use Rattle.net_queue.proofs.Closing.{may_four, means_all_later}
@@ -49,7 +49,7 @@ drive_all-requires-clause-undriven c =
     let e = c.as_slice-2.ensures ∙ c.in_ok-registers.ensures
     ∙ ap (λ (ws : List Wire). q.valid ∷ q.full ∷ ws ++ c.as_slice-last.result.now) c.as_slice-head.ensures
     ∙ ap (λ (ws : List Wire). q.valid ∷ q.full ∷ q.head ++ ws) c.as_slice-last.ensures in
-    subst (λ (ws : List Wire). AreUndriven c.mux_row-2.new.builder ws) (sym e) (all_undriven_adds _ _ (registers q) g c.requires.open.undriven)
+    subst (λ (ws : List Wire). AreUndriven c.mux_row-2.new.builder ws) (sym e) (all_undriven_adds _ _ (queue_registers q) g c.requires.open.undriven)
 
 pub drive_all-requires-clause-nexts : goal.drive_all-requires-clause-nexts
 drive_all-requires-clause-nexts c =
@@ -68,7 +68,7 @@ drive_all-requires-clause-nexts c =
     ∙ ap (λ (ws : List Wire). n.valid ∷ n.full ∷ ws ++ c.as_slice-behind.result.now) c.as_slice.ensures
     ∙ ap (λ (ws : List Wire). n.valid ∷ n.full ∷ heads ++ ws) c.as_slice-behind.ensures in
     subst (λ (ws : List Wire). MayDrive b ws c.as_slice-3.result.now) (sym e)
-    (subst (λ (ws : List Wire). MayDrive b (registers q) ws) (sym f)
+    (subst (λ (ws : List Wire). MayDrive b (queue_registers q) ws) (sym f)
     (may_four b q.valid q.full n.valid n.full q.head q.last heads lasts
     (bit_adds _ _ q.valid g c.requires.open.valid)
     (bit_adds _ _ q.full g c.requires.open.full)
@@ -111,7 +111,7 @@ returns-clause-list c =
     (register_later _ _ q.full l (c.requires.open.undriven.each 1 q.full (omega arith)).register)
     (subst (λ (ws : List Wire). AreAlike c.mux_row-2.new.builder ws heads) c.as_slice-head.ensures c.in_ok-next_head.ensures.alike).long
     (subst (λ (ws : List Wire). AreAlike c.mux_row.new.builder ws lasts) c.as_slice-last.ensures c.in_ok-next_last.ensures.alike).long
-    (subst (λ (ws : List Wire). AllTake b (registers q) ws) f (subst (λ (ws : List Wire). AllTake b ws c.as_slice-3.result.now) e c.in_ok-drive_all.ensures.take))
+    (subst (λ (ws : List Wire). AllTake b (queue_registers q) ws) f (subst (λ (ws : List Wire). AllTake b ws c.as_slice-3.result.now) e c.in_ok-drive_all.ensures.take))
     (tells_later _ _ q.ready _ l c.requires.open.room)
     (tells_later _ _ kept _ l2 c.in_ok-kept.ensures.tells)
     (tells_later _ _ n.valid _ l3 c.in_ok-next.ensures.valid)
