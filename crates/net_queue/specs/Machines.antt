@@ -10,8 +10,8 @@ pub record Machine (S X D : Type 0) : Type 0 where
   pub after : S → X → S
 
 -- A relation between what registers hold and the states of a machine, on wires that tell what it sees and does. It
--- holds of the first state in the first cycle. Where it holds of a state, the wires tell the acts of that state, and after a
--- cycle without a reset it holds of the next one. This is said of states that fit what is seen.
+-- holds of the first state in the first cycle. Where it holds of a state, the wires tell the acts of that state, and
+-- after a cycle without a reset it holds of the next one. This is said of states that fit what is seen.
 pub record Follows {S X D Y E : Type 0} (b : Built) (m : Machine S X D) (fits : S → X → Type 0) (seen : X → Y)
     (told : D → E) (sees : (ℕ → ℕ) → Y) (shows : (ℕ → ℕ) → E) (stands : (ℕ → ℕ) → S → Type 0) : Type 0 where
   pub starts : (v : ℕ → ℕ) → AtStart b v → stands v m.idle
