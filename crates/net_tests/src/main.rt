@@ -4,6 +4,7 @@
 
 mod built;
 mod described;
+mod queued;
 mod run;
 mod script;
 

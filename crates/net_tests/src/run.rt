@@ -1,7 +1,8 @@
-ghost use Rattle.std.specs.Prelude.{◌≡◌, ◌↔◌, IsTrue, ◌^◌, ◌<◌, length};
+ghost use Rattle.std.specs.Prelude.{◌≡◌, ◌↔◌, All, IsTrue, ◌^◌, ◌<◌, length};
 ghost use Rattle.net_cells.specs.Rules.{width_at, widths};
 ghost use Rattle.net_cells.specs.Values.{AreInputs};
 
+use dip_lists::Items;
 use net_cells::{Netlist, well_formed};
 use sim_engine::{Engine, EngineFault};
 use std::io;
@@ -37,6 +38,31 @@ fn are_inputs(netlist: &Netlist, inputs: &[u64]) -> bool
         }
     }
     inputs.len() == netlist.inputs.len()
+}
+
+// Whether these are inputs for cycles of the netlist.
+fn are_all_inputs(netlist: &Netlist, cycles: &[Items<u64>]) -> bool
+    ensures { IsTrue result → All (AreInputs netlist.now) cycles.now }
+{
+    for inputs in cycles {
+        if !are_inputs(netlist, inputs.as_slice()) {
+            return false;
+        }
+    }
+    true
+}
+
+// Prints what three outputs show in each cycle.
+fn show_each(rt: &HostRuntime, engine: &mut Engine, cycles: &[Items<u64>]) -> io::Result<()>
+    requires inputs { All (AreInputs engine.old.netlist) cycles.now }
+    requires outputs { length engine.old.netlist.outputs ≡ 3 }
+{
+    let mut outputs = [0; 3];
+    for inputs in cycles {
+        engine.cycle(inputs.as_slice(), &mut outputs);
+        println!(rt; "{} {} {}", outputs[0], outputs[1], outputs[2])?;
+    }
+    Ok(())
 }
 
 // What the only output shows in the last of so many cycles with the same inputs.
@@ -80,6 +106,22 @@ pub fn run(rt: &HostRuntime, netlist: Netlist, inputs: &[u64], cycles: u64) -> i
     }
     match Engine::open(rt.alloc(), netlist) {
         Ok(mut engine) => show(rt, &mut engine, inputs, cycles),
+        Err(EngineFault::Loop { net }) => println!(rt; "net {net} depends on itself"),
+        Err(EngineFault::Memory) => println!(rt; "out of memory"),
+    }
+}
+
+/// Runs a netlist with three outputs for a cycle with each of these inputs, and prints what they show in it;
+/// or why it doesn't run.
+pub fn trace(rt: &HostRuntime, netlist: Netlist, cycles: &[Items<u64>]) -> io::Result<()> {
+    let Ok(true) = well_formed(rt.alloc(), &netlist) else {
+        return println!(rt; "not well formed");
+    };
+    if !are_all_inputs(&netlist, cycles) || netlist.outputs.len() != 3 {
+        return println!(rt; "no inputs of it, or not three outputs");
+    }
+    match Engine::open(rt.alloc(), netlist) {
+        Ok(mut engine) => show_each(rt, &mut engine, cycles),
         Err(EngineFault::Loop { net }) => println!(rt; "net {net} depends on itself"),
         Err(EngineFault::Memory) => println!(rt; "out of memory"),
     }

@@ -1,7 +1,8 @@
 use crate::built;
 use crate::described::{chain, cut, described, number, single, width};
-use crate::run::{formed, run};
-use dip_lists::Memory;
+use crate::queued::queued;
+use crate::run::{formed, run, trace};
+use dip_lists::{Items, Memory};
 use net_cells::Netlist;
 use std::alloc::{AllocError, Global};
 use std::io;
@@ -74,6 +75,32 @@ fn show_chain(rt: &HostRuntime, words: &str) -> io::Result<()> {
     show_run(rt, chain(rt.alloc(), number(cells), number(last)), "1 0")
 }
 
+// The numbers of one cycle: `RESET,PUT,ITEM,TAKE`.
+fn cycle(alloc: Global, words: &str) -> Result<Items<u64>, Memory> {
+    let mut numbers = Items::new(alloc);
+    for word in words.split(',') {
+        numbers.push(number(word))?;
+    }
+    Ok(numbers)
+}
+
+// Those of several cycles.
+fn cycles(alloc: Global, words: &str) -> Result<Items<Items<u64>>, Memory> {
+    let mut cycles = Items::new(alloc);
+    for word in words.split(' ') {
+        cycles.push(cycle(alloc, word)?)?;
+    }
+    Ok(cycles)
+}
+
+// Runs a queue of items of four bits, a cycle for each word.
+fn show_queue(rt: &HostRuntime, words: &str) -> io::Result<()> {
+    match (queued(rt.alloc()), cycles(rt.alloc(), words)) {
+        (Ok(netlist), Ok(cycles)) => trace(rt, netlist, cycles.as_slice()),
+        _ => println!(rt; "out of memory"),
+    }
+}
+
 impl Script {
     /// Nothing was read.
     pub fn new(alloc: Global) -> Script {
@@ -105,7 +132,7 @@ impl Script {
     /// `reg`, `cell` and `output` add. Then `formed` asks whether it is well formed, `width NET` how wide a
     /// net is, and `run CYCLES INPUTS` what its output shows after so many cycles; `op` asks for the value
     /// of one cell, `chain` for that of many, and `counter`, `shown`, `late`, `operators` and `folds` about
-    /// netlists that a builder made. Any other line is printed.
+    /// netlists that a builder made; `queue` runs a queue, a cycle for each word. Any other line is printed.
     pub fn take(&mut self, rt: &HostRuntime, line: &str) -> io::Result<()> {
         let alloc = rt.alloc();
         let (word, rest) = cut(line);
@@ -121,6 +148,7 @@ impl Script {
             "shown" => show_run(rt, built::shown(alloc), rest),
             "late" => show_run(rt, built::late(alloc), rest),
             "operators" => show_formed(rt, built::operators(alloc)),
+            "queue" => show_queue(rt, rest),
             "folds" => show_formed(rt, built::folds(alloc)),
             "" => Ok(()),
             _ => println!(rt; "{line}"),

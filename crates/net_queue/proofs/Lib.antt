@@ -1,0 +1,10 @@
+pub mod Alike
+pub mod Chosen
+pub mod Filled
+pub mod Opening
+pub mod Listed
+pub mod Closing
+pub mod Made
+pub mod Fitted
+pub mod Guarded
+pub mod Relations
