@@ -1,5 +1,5 @@
--- The entries of a file, and those at which something fails: the top table is entry 0, and the tables of its arrays come
--- behind it, each in file order.
+-- The entries of a file, and those at which something fails: the top table is entry 0, and the tables of its arrays
+-- come behind it, each in file order.
 use Rattle.std.specs.Prelude.{ℕ, ◌+◌, List, [], ◌∷◌, length, Bool, ◌&&◌, cond, nat_le, Option, Some, None, unwrap_or}
 use Rattle.std.specs.Option.{option_map}
 use Rattle.toml.specs.Data.{Data, Items, no_items, item, Members}
