@@ -12,7 +12,7 @@ use Rattle.net_build.specs.Bits.{AreBits}
 use Rattle.net_queue.specs.declared.types.EdgeWires.{EdgeWires}
 use Rattle.net_queue.specs.declared.types.LeafWires.{LeafWires}
 use Rattle.net_queue.specs.declared.types.Put.{Put}
-use Rattle.net_queue.specs.Leaves.{AreEdges, AreWiresOf, IsEdge, IsPutInto, LeafView, PutsFitAt, ins_at, outs_at}
+use Rattle.net_queue.specs.Leaves.{AreEdges, AreWiresOf, IsEdge, IsPutInto, LeafView, DoneFitsAt, ins_at, outs_at}
 use Rattle.net_build.specs.Values.{Adds}
 use Rattle.net_queue.specs.Rows.{KeepsRow, row_widths}
 use Rattle.net_buffer.specs.Buffers.{buffer_machine}
@@ -31,7 +31,7 @@ only_at plan edges l = get_or-map (edge_at plan) edges 0 0 no_edge (omega (arith
 
 pub fits_both : (b c : Built) (plan : Plan) (leaf : ℕ) (above below : EdgeWires) → length (ins_at plan leaf) ≡ 1 → length (outs_at plan leaf) ≡ 1
     → IsEdge b (edge_at plan (get_or (ins_at plan leaf) 0 0)) above → IsEdge c (edge_at plan (get_or (outs_at plan leaf) 0 0)) below
-    → (s : LeafState) (x : LeafView) → PutsFitAt plan leaf buffer_machine s x → Fit (row_widths below.a.head) (row_widths above.d.head) s x
+    → (s : LeafState) (x : LeafView) → DoneFitsAt plan leaf buffer_machine s x → Fit (row_widths below.a.head) (row_widths above.d.head) s x
 fits_both b c plan leaf above below i o ha hb s x f = record {
   down = λ beat e. subst (λ (ns : List ℕ). FitWires (a_fields beat) ns) (ap (λ (edge : PlanEdge). a_widths edge.bundle) (only_at plan (outs_at plan leaf) o) ∙ sym hb.a_widths) (f.requests 0 beat e);
   up = λ beat e. subst (λ (ns : List ℕ). FitWires (d_fields beat) ns) (ap (λ (edge : PlanEdge). d_widths edge.bundle) (only_at plan (ins_at plan leaf) i) ∙ sym ha.d_widths) (f.responses 0 beat e);

@@ -8,7 +8,7 @@ ghost use Rattle.net_queue.specs.Leaves.{
   IsLeaf,
   IsOfTemplate,
   IsPutInto,
-  PutsFitAt,
+  DoneFitsAt,
   ins_at,
   outs_at,
 };
@@ -65,7 +65,8 @@ pub fn build_buffer(
     ensures adds { IfOk result (λ _. Adds builder.old builder.new) }
     ensures wires { IfOk result (λ w. AreWiresOf builder.new ins.now outs.now w) }
     ensures leaf { IfOk result
-        (λ w. IsLeaf builder.new ins.now outs.now w buffer_machine (PutsFitAt plan.now leaf buffer_machine)) }
+        (λ w. IsLeaf builder.new ins.now outs.now w buffer_machine
+        (DoneFitsAt plan.now leaf buffer_machine)) }
 {
     let above = &ins[0];
     let below = &outs[0];

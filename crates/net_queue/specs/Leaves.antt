@@ -57,7 +57,7 @@ pub record IsGuarded {S : Type 0} (m : Machine S LeafView LeafDone) (fits : S �
       → is_some (slice_index_or x.heads_d k None) ≡ true
 
 -- each beat that is put fits the wires of the edge onto which it is put
-pub record PutsFit (ins outs : List PlanEdge) (done : LeafDone) : Type 0 where
+pub record DoneFits (ins outs : List PlanEdge) (done : LeafDone) : Type 0 where
   pub requests : (k : ℕ) (beat : ABeat) → slice_index_or done.put_a k None ≡ Some beat
       → FitWires (a_fields beat) (a_widths (slice_index_or outs k no_edge).bundle)
   pub responses : (k : ℕ) (beat : DBeat) → slice_index_or done.put_d k None ≡ Some beat
@@ -93,16 +93,16 @@ view_at ins outs v = record {
 }
 
 -- what is put
-abbrev pub put_at : (ℕ → ℕ) → Put → Option (List ℕ)
-put_at v put = cond (high v put.valid) (Some (wire_values v put.items)) None
+abbrev pub put_told : (ℕ → ℕ) → Put → Option (List ℕ)
+put_told v put = cond (high v put.valid) (Some (wire_values v put.items)) None
 
 -- what its wires tell
 abbrev pub done_at : LeafWires → (ℕ → ℕ) → Done (List ℕ) (List ℕ)
 done_at wires v = record {
   take_a = highs v wires.take_a;
-  put_d = map (put_at v) wires.put_d;
+  put_d = map (put_told v) wires.put_d;
   take_d = highs v wires.take_d;
-  put_a = map (put_at v) wires.put_a;
+  put_a = map (put_told v) wires.put_a;
 }
 
 -- ---- at a leaf of a plan
@@ -153,9 +153,9 @@ pub record AreWiresOf (b : Built) (ins outs : List EdgeWires) (wires : LeafWires
       → IsPutInto b (slice_index_or outs k e).a (slice_index_or wires.put_a k p)
 
 -- whatever the machine puts fits the wires of the edges of a leaf
-abbrev pub PutsFitAt : {S : Type 0} → Plan → ℕ → Machine S LeafView LeafDone → S → LeafView → Type 0
-PutsFitAt plan leaf m s x =
-    PutsFit (map (edge_at plan) (ins_at plan leaf)) (map (edge_at plan) (outs_at plan leaf)) (m.does s x)
+abbrev pub DoneFitsAt : {S : Type 0} → Plan → ℕ → Machine S LeafView LeafDone → S → LeafView → Type 0
+DoneFitsAt plan leaf m s x =
+    DoneFits (map (edge_at plan) (ins_at plan leaf)) (map (edge_at plan) (outs_at plan leaf)) (m.does s x)
 
 -- the wires between the queues of these edges are the leaf
 abbrev pub IsLeaf : {S : Type 0} → Built → List EdgeWires → List EdgeWires → LeafWires → Machine S LeafView LeafDone

@@ -2,7 +2,7 @@ use Rattle.std.proofs.Common.{List, sym, ◌∙◌}
 use Rattle.net_build.proofs.Steps.{adds_adds, bit_adds, tells_adds}
 use Rattle.net_queue.specs.declared.types.EdgeWires.{EdgeWires}
 use Rattle.net_queue.specs.declared.types.LeafWires.{LeafWires}
-use Rattle.net_queue.specs.Leaves.{AreWiresOf, IsLeaf, PutsFitAt}
+use Rattle.net_queue.specs.Leaves.{AreWiresOf, IsLeaf, DoneFitsAt}
 use Rattle.net_queue.proofs.Alike.{alike_adds}
 use Rattle.net_queue.proofs.Opening.{open_adds}
 use Rattle.net_buffer.specs.Buffers.{buffer_machine}
@@ -63,7 +63,7 @@ returns-clause-leaf c =
     let up = c.in_ok-up.up in
     let above = c.index-ins-0.result in
     let below = c.index-outs-0.result in
-    let fits = PutsFitAt c.args.plan.now c.args.leaf buffer_machine in
+    let fits = DoneFitsAt c.args.plan.now c.args.leaf buffer_machine in
     said (λ (ins outs : List EdgeWires) (w : LeafWires). IsLeaf b ins outs w buffer_machine fits) c.args.ins.now c.args.outs.now above below
     c.in_ok-take_a.take_a c.in_ok-take_d.take_d c.in_ok-put_a.put_a c.in_ok-put_d.put_d down up
     (alone c.args.ins.now above (c.requires.ins.long ∙ o.0) c.index-ins-0.is)
