@@ -9,3 +9,4 @@ pub mod Moved
 pub mod Gated
 pub mod Runs
 pub mod WorkedMoves
+pub mod Simple

@@ -12,6 +12,7 @@ pub mod ExampleBeats
 pub mod Examples
 pub mod ExampleBursts
 pub mod Built
+pub mod BuiltPlans
 pub mod ExampleMoves
 pub mod Gating
 pub mod Shapes

@@ -1,3 +1,4 @@
+ghost use Rattle.flow_core.specs.BuiltPlans.{BuiltLaw};
 ghost use Rattle.flow_core.specs.ExampleBursts.{
   CrossbarBursts,
   FragmenterBursts,
@@ -47,4 +48,10 @@ pub fn moves_law()
 /// and leaves as at the start, and the plan is the same.
 pub fn shape_law()
     ensures { ShapeLaw }
+{}
+
+/// A sound plan is one of which a network is opened where all its leaves are buffers and crossbars, whatever
+/// else it has, and no plan with another leaf is.
+pub fn built_law()
+    ensures { BuiltLaw }
 {}
