@@ -10,3 +10,6 @@ pub mod Gated
 pub mod Runs
 pub mod WorkedMoves
 pub mod Simple
+pub mod ToNarrow
+pub mod Rows
+pub mod ToWide

@@ -2,6 +2,7 @@ pub mod Acts
 pub mod Crossing
 pub mod Shrinking
 pub mod Turning
+pub mod TurningLaws
 pub mod Fragmenting
 pub mod Leaves
 pub mod Tags

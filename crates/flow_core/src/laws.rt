@@ -15,6 +15,7 @@ ghost use Rattle.flow_core.specs.Examples.{
 };
 ghost use Rattle.flow_core.specs.Shapes.{ShapeLaw};
 ghost use Rattle.flow_core.specs.Tags.{TagsLaw};
+ghost use Rattle.flow_core.specs.TurningLaws.{NarrowingLaw, WideningLaw};
 
 /// No act of a leaf goes by the tags of beats.
 pub fn tags_law()
@@ -54,4 +55,10 @@ pub fn shape_law()
 /// else it has, and no plan with another leaf is.
 pub fn built_law()
     ensures { BuiltLaw }
+{}
+
+/// A width adapter makes of the beats of a request with data those of the same request on the other bus.
+pub fn turning_law()
+    ensures narrowing { NarrowingLaw }
+    ensures widening { WideningLaw }
 {}

@@ -1,0 +1,9 @@
+use Rattle.flow_core.proofs.ToNarrow.{narrowing_law}
+use Rattle.flow_core.proofs.ToWide.{widening_law}
+use Rattle.flow_core.proofs.laws.turning_law.Goals as goal
+
+pub returns-clause-narrowing : goal.returns-clause-narrowing
+returns-clause-narrowing c = narrowing_law
+
+pub returns-clause-widening : goal.returns-clause-widening
+returns-clause-widening c = widening_law

@@ -1,0 +1,74 @@
+-- What a width widget makes of the beats of a request with data: narrow ones out of wide ones, and wide ones out of
+-- narrow ones.
+use Rattle.std.specs.Prelude.{ℕ, suc, ◌≡◌, ◌+◌, ◌<◌, ◌↔◌, true, Some, None}
+use Rattle.tl_edge.specs.declared.beat.ABeat.{ABeat}
+use Rattle.tl_edge.specs.declared.message.Request.{Request}
+use Rattle.tl_edge.specs.Beats.{data_beats, a_beat}
+use Rattle.tl_pieces.specs.TwoBuses.{IsAsking, lane_in_wide, wide_number, first_narrow, narrow_count, gathered}
+use Rattle.flow_core.specs.Acts.{Act}
+use Rattle.flow_core.specs.Leaves.{no_lanes}
+use Rattle.flow_core.specs.Turning.{Side, Widget, number_after, turn_down}
+
+-- ---- from wide to narrow
+
+-- the narrow beat with a number is the last of those that lie in its wide one
+abbrev pub IsLastInWide : ℕ → ℕ → Request → ℕ → Type 0
+IsLastInWide narrow wide request number =
+    number + 1
+    ≡ first_narrow narrow wide (wide_number narrow wide request.address number)
+    + narrow_count narrow wide request.size
+
+-- a move to a narrower bus puts the narrow beat whose turn it is, takes the head exactly with the last narrow beat that
+-- lies in it, and counts
+pub record PutsNarrow (narrow wide : ℕ) (request : Request) (number : ℕ) (act : Act ABeat Widget) : Type 0 where
+  pub put : act.put ≡ Some (a_beat narrow request number)
+  pub take : (act.take ≡ true) ↔ IsLastInWide narrow wide request number
+  pub done : act.next.a.done ≡ number_after (data_beats request.size narrow) number
+
+-- where the head is the wide beat in which the narrow beat lies that is next by the count, there is such a move
+abbrev pub NarrowingLaw : Type 0
+NarrowingLaw =
+    (narrow wide : ℕ) (request : Request) (widget : Widget) → IsAsking narrow wide request → narrow < wide
+    → widget.a.done < data_beats request.size narrow
+    → (act : Act ABeat Widget)
+    × (turn_down (record { above = wide; below = narrow }) widget
+    (a_beat wide request (wide_number narrow wide request.address widget.a.done))
+    ≡ Some act)
+    × PutsNarrow narrow wide request widget.a.done act
+
+-- ---- from narrow to wide
+
+-- of the wide beat with a number so many narrow beats are done, and the sum of their lanes, each at its place, is kept
+pub record HasCollected (narrow wide : ℕ) (request : Request) (number count : ℕ) (side : Side) : Type 0 where
+  pub done : side.done ≡ first_narrow narrow wide number + count
+  pub mask : side.mask
+      ≡ gathered 2 (lane_in_wide narrow wide request.address) (λ k. (a_beat narrow request k).mask)
+      (first_narrow narrow wide number) count
+  pub payload : side.payload
+      ≡ gathered 256 (lane_in_wide narrow wide request.address) (λ k. (a_beat narrow request k).payload)
+      (first_narrow narrow wide number) count
+
+-- a move to a wider bus takes its head; with the last narrow beat of the wide one it puts that, and goes on with the
+-- next one or, behind the last, as at the start; with another it puts nothing
+pub record PutsWide (narrow wide : ℕ) (request : Request) (number count : ℕ) (act : Act ABeat Widget) : Type 0 where
+  pub take : act.take ≡ true
+  pub put : suc count ≡ narrow_count narrow wide request.size → act.put ≡ Some (a_beat wide request number)
+  pub next : suc count ≡ narrow_count narrow wide request.size → number + 1 < data_beats request.size wide
+      → HasCollected narrow wide request (number + 1) 0 act.next.a
+  pub end : suc count ≡ narrow_count narrow wide request.size → number + 1 ≡ data_beats request.size wide
+      → act.next.a ≡ no_lanes
+  pub wait : suc count < narrow_count narrow wide request.size → act.put ≡ None
+  pub kept : suc count < narrow_count narrow wide request.size
+      → HasCollected narrow wide request number (suc count) act.next.a
+
+-- where some narrow beats of a wide one are collected, and the head is the next one, there is such a move
+abbrev pub WideningLaw : Type 0
+WideningLaw =
+    (narrow wide : ℕ) (request : Request) (number count : ℕ) (widget : Widget) → IsAsking narrow wide request
+    → narrow < wide → number < data_beats request.size wide → count < narrow_count narrow wide request.size
+    → HasCollected narrow wide request number count widget.a
+    → (act : Act ABeat Widget)
+    × (turn_down (record { above = narrow; below = wide }) widget
+    (a_beat narrow request (first_narrow narrow wide number + count))
+    ≡ Some act)
+    × PutsWide narrow wide request number count act
