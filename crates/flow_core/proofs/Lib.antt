@@ -13,3 +13,5 @@ pub mod Simple
 pub mod ToNarrow
 pub mod Rows
 pub mod ToWide
+pub mod Back
+pub mod BackToWide

@@ -41,7 +41,7 @@ tested narrow wide size address number = (
 
 -- ---- from wide to narrow
 
-cut : (narrow place : ℕ) (lanes : Lanes) → narrowed narrow place lanes ≡ record { mask = lanes_at 2 narrow place lanes.mask; payload = lanes_at 256 narrow place lanes.payload }
+pub cut : (narrow place : ℕ) (lanes : Lanes) → narrowed narrow place lanes ≡ record { mask = lanes_at 2 narrow place lanes.mask; payload = lanes_at 256 narrow place lanes.payload }
 cut narrow place lanes =
     ap (λ (k : ℕ). record { mask = lanes_at 2 narrow place lanes.mask; payload = lanes.payload / k % 2 ^ (8 * narrow) }) (byte_shift place)
     ∙ ap (λ (k : ℕ). record { mask = lanes_at 2 narrow place lanes.mask; payload = lanes.payload / 256 ^ place % k }) (byte_shift narrow)
@@ -78,7 +78,7 @@ module _ (narrow wide : ℕ) (request : Request) (widget : Widget) (asks : IsAsk
       (cond-false (nat_lt wide narrow) _ _ (le-ltb wide narrow (omega (arith, less)))
       ∙ ap (λ lanes. narrows ends next widget.a lanes) cut_out)
 
-  takes : (act.take ≡ true) ↔ IsLastInWide narrow wide request number
+  takes : (act.take ≡ true) ↔ IsLastInWide narrow wide request.size request.address number
   takes =
       let test = tested narrow wide request.size request.address number in
       let last = last_law narrow wide request number asks below in

@@ -17,7 +17,7 @@ use Rattle.flow_core.specs.TurningLaws.{HasCollected, PutsWide, WideningLaw}
 use Rattle.flow_core.proofs.Rows.{StandsIn, stands}
 use Rattle.flow_core.proofs.ToNarrow.{moved, tested}
 
-placed : (side : Side) (place : ℕ) (lanes : Lanes) → with_lanes side place lanes ≡ record { mask = bit_or side.mask (lanes.mask * 2 ^ place); payload = bit_or side.payload (lanes.payload * 256 ^ place) }
+pub placed : (side : Side) (place : ℕ) (lanes : Lanes) → with_lanes side place lanes ≡ record { mask = bit_or side.mask (lanes.mask * 2 ^ place); payload = bit_or side.payload (lanes.payload * 256 ^ place) }
 placed side place lanes =
     ap (λ (k : ℕ). record { mask = bit_or side.mask (lanes.mask * 2 ^ place); payload = bit_or side.payload (lanes.payload * k) }) (byte_shift place)
 
