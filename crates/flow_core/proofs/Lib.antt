@@ -15,3 +15,4 @@ pub mod Rows
 pub mod ToWide
 pub mod Back
 pub mod BackToWide
+pub mod KeptAddresses

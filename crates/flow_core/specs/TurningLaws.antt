@@ -1,15 +1,16 @@
 -- What a width widget makes of the beats of a message with data: narrow ones out of wide ones, and wide ones out of
 -- narrow ones.
-use Rattle.std.specs.Prelude.{ℕ, suc, ◌≡◌, ◌+◌, ◌%◌, ◌<◌, ◌↔◌, true, Some, None}
+use Rattle.std.specs.Prelude.{ℕ, suc, length, ◌≡◌, ◌+◌, ◌%◌, ◌<◌, ◌↔◌, true, Some, None}
 use Rattle.tl_edge.specs.declared.beat.ABeat.{ABeat}
 use Rattle.tl_edge.specs.declared.beat.DBeat.{DBeat}
 use Rattle.tl_edge.specs.declared.message.Request.{Request}
 use Rattle.tl_edge.specs.declared.message.Response.{Response}
+use Rattle.tl_edge.specs.Messages.{has_data}
 use Rattle.tl_edge.specs.Beats.{data_beats, a_beat, d_beat, most_lanes}
 use Rattle.tl_pieces.specs.TwoBuses.{IsAsking, IsTelling, lane_in_wide, wide_number, first_narrow, narrow_count, gathered}
 use Rattle.flow_core.specs.Acts.{Act}
 use Rattle.flow_core.specs.Leaves.{no_lanes}
-use Rattle.flow_core.specs.Turning.{Side, Widget, number_after, address_of, turn_down, turn_up}
+use Rattle.flow_core.specs.Turning.{Widths, Side, Widget, number_after, address_of, turn_down, turn_up}
 
 -- ---- requests, from wide to narrow
 
@@ -136,3 +137,21 @@ WideningBackLaw =
     (d_beat narrow request.address response (first_narrow narrow wide number + count))
     ≡ Some act)
     × PutsWideBack narrow wide request response number count act
+
+-- ---- the addresses that are kept
+
+-- between buses of two widths a move on the first beat of a request keeps its address for its id, one on a later beat
+-- keeps no other, and none changes what is kept for other ids; a move back changes nothing of it
+pub record KeptAddressLaw : Type 0 where
+  pub first : (widths : Widths) (widget : Widget) (beat : ABeat) (act : Act ABeat Widget)
+      → (widths.above ≡ widths.below → ⊥) → turn_down widths widget beat ≡ Some act → widget.a.done ≡ 0
+      → beat.source < length widget.kept
+      → address_of act.next.kept beat.source ≡ Some (beat.address % most_lanes)
+  pub later : (widths : Widths) (widget : Widget) (beat : ABeat) (act : Act ABeat Widget)
+      → (widths.above ≡ widths.below → ⊥) → turn_down widths widget beat ≡ Some act → 0 < widget.a.done
+      → has_data beat.op ≡ true → act.next.kept ≡ widget.kept
+  pub others : (widths : Widths) (widget : Widget) (beat : ABeat) (act : Act ABeat Widget) (id : ℕ)
+      → (widths.above ≡ widths.below → ⊥) → turn_down widths widget beat ≡ Some act → (id ≡ beat.source → ⊥)
+      → address_of act.next.kept id ≡ address_of widget.kept id
+  pub back : (widths : Widths) (widget : Widget) (beat : DBeat) (act : Act DBeat Widget)
+      → turn_up widths widget beat ≡ Some act → act.next.kept ≡ widget.kept

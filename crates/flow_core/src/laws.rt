@@ -15,7 +15,7 @@ ghost use Rattle.flow_core.specs.Examples.{
 };
 ghost use Rattle.flow_core.specs.Shapes.{ShapeLaw};
 ghost use Rattle.flow_core.specs.Tags.{TagsLaw};
-ghost use Rattle.flow_core.specs.TurningLaws.{NarrowingBackLaw, NarrowingLaw, WideningBackLaw, WideningLaw};
+ghost use Rattle.flow_core.specs.TurningLaws.{KeptAddressLaw, NarrowingBackLaw, NarrowingLaw, WideningBackLaw, WideningLaw};
 
 /// No act of a leaf goes by the tags of beats.
 pub fn tags_law()
@@ -64,4 +64,5 @@ pub fn turning_law()
     ensures widening { WideningLaw }
     ensures narrowing_back { NarrowingBackLaw }
     ensures widening_back { WideningBackLaw }
+    ensures kept { KeptAddressLaw }
 {}
