@@ -10,3 +10,10 @@ pub mod Gated
 pub mod Runs
 pub mod WorkedMoves
 pub mod Unchosen
+pub mod Simple
+pub mod ToNarrow
+pub mod Rows
+pub mod ToWide
+pub mod Back
+pub mod BackToWide
+pub mod KeptAddresses

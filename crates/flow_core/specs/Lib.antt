@@ -2,6 +2,7 @@ pub mod Acts
 pub mod Crossing
 pub mod Shrinking
 pub mod Turning
+pub mod TurningLaws
 pub mod Fragmenting
 pub mod Leaves
 pub mod Tags
@@ -12,6 +13,7 @@ pub mod ExampleBeats
 pub mod Examples
 pub mod ExampleBursts
 pub mod Built
+pub mod BuiltPlans
 pub mod ExampleMoves
 pub mod Gating
 pub mod Shapes

@@ -1,3 +1,4 @@
+ghost use Rattle.flow_core.specs.BuiltPlans.{BuiltLaw};
 ghost use Rattle.flow_core.specs.ExampleBursts.{
   CrossbarBursts,
   FragmenterBursts,
@@ -14,6 +15,7 @@ ghost use Rattle.flow_core.specs.Examples.{
 };
 ghost use Rattle.flow_core.specs.Shapes.{ShapeLaw};
 ghost use Rattle.flow_core.specs.Tags.{TagsLaw};
+ghost use Rattle.flow_core.specs.TurningLaws.{KeptAddressLaw, NarrowingBackLaw, NarrowingLaw, WideningBackLaw, WideningLaw};
 
 /// No act of a leaf goes by the tags of beats.
 pub fn tags_law()
@@ -47,4 +49,20 @@ pub fn moves_law()
 /// and leaves as at the start, and the plan is the same.
 pub fn shape_law()
     ensures { ShapeLaw }
+{}
+
+/// A sound plan is one of which a network is opened where all its leaves are buffers and crossbars, whatever
+/// else it has, and no plan with another leaf is.
+pub fn built_law()
+    ensures { BuiltLaw }
+{}
+
+/// A width adapter makes of the beats of a message with data those of the same message on the other bus, for
+/// requests and, by the address that it keeps, for their responses.
+pub fn turning_law()
+    ensures narrowing { NarrowingLaw }
+    ensures widening { WideningLaw }
+    ensures narrowing_back { NarrowingBackLaw }
+    ensures widening_back { WideningBackLaw }
+    ensures kept { KeptAddressLaw }
 {}

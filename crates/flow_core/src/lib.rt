@@ -10,7 +10,7 @@ mod network;
 mod queue;
 mod ways;
 
-pub use laws::{bursts_law, examples_law, moves_law, shape_law, tags_law};
+pub use laws::{built_law, bursts_law, examples_law, moves_law, shape_law, tags_law, turning_law};
 pub use locks::{Gate, Lock};
 pub use moves::{Move, Moves};
 pub use network::Network;

@@ -1,4 +1,5 @@
 ghost use Rattle.std.specs.Prelude.{◌≡◌, IsTrue, IfOk, slice_get};
+ghost use Rattle.std.specs.Option.{option_copied};
 ghost use Rattle.flow_core.specs.Built.{passing_down, passing_up, IsBuilt};
 ghost use Rattle.flow_core.specs.Gating as gating;
 ghost use Rattle.flow_core.specs.Network as spec;
@@ -7,6 +8,7 @@ ghost use Rattle.flow_core.specs.declared.moves.Move.TheVariants.{AbsorbA, Absor
 
 use crate::carried::{carries_a, carries_d};
 use crate::crossing::{AllGates, Fixed, Way};
+use crate::locks::Gates;
 use crate::queue::Queues;
 use crate::ways::{fixed_leaves, kept_gates, passing_down as down, passing_up as up};
 use crate::{Gate, Move};
@@ -95,12 +97,19 @@ impl<'a> Network<'a> {
 }
 
 impl<'a> Network<'a> {
+    // The gates of a leaf, if it is a crossbar.
+    fn gates_of(&self, leaf: u32) -> Option<&Gates>
+        ensures { option_copied result ≡ gating.gates_of self.now leaf }
+    {
+        kept_gates(self.plan, &self.gates, leaf)
+    }
+
     /// The gate of a crossbar's output on channel A; `None` exactly where the leaf is no crossbar or has no
     /// such output.
     pub fn output_gate(&self, leaf: u32, output: u32) -> Option<Gate>
         ensures { result ≡ gating.output_gate self.now leaf output }
     {
-        match kept_gates(self.plan, &self.gates, leaf) {
+        match self.gates_of(leaf) {
             None => None,
             Some(own) => gate_at(&own.outs, output),
         }
@@ -111,7 +120,7 @@ impl<'a> Network<'a> {
     pub fn input_gate(&self, leaf: u32, input: u32) -> Option<Gate>
         ensures { result ≡ gating.input_gate self.now leaf input }
     {
-        match kept_gates(self.plan, &self.gates, leaf) {
+        match self.gates_of(leaf) {
             None => None,
             Some(own) => gate_at(&own.ins, input),
         }
