@@ -13,3 +13,4 @@ pub mod Adding
 pub mod Counts
 pub mod Worked
 pub mod Served
+pub mod Starting
