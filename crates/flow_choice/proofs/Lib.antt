@@ -14,3 +14,5 @@ pub mod Counts
 pub mod Worked
 pub mod Served
 pub mod Starting
+pub mod Picked
+pub mod Complete
