@@ -64,7 +64,7 @@ up_added s l i next outputs list new f g h = rw (← f, ← g) h
 
 -- ---- in turn
 
-find-append : (test : ℕ → Bool) (xs ys : List ℕ) → find test (xs ++ ys) ≡ option_or (find test xs) (find test ys)
+pub find-append : (test : ℕ → Bool) (xs ys : List ℕ) → find test (xs ++ ys) ≡ option_or (find test xs) (find test ys)
 find-append test [] ys = refl
 find-append test (x ∷ xs) ys = at (test x) (find-append test xs ys)
   where

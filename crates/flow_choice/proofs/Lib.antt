@@ -13,3 +13,6 @@ pub mod Adding
 pub mod Counts
 pub mod Worked
 pub mod Served
+pub mod Starting
+pub mod Picked
+pub mod Complete

@@ -7,3 +7,4 @@ pub mod Examples
 pub mod Orderly
 pub mod OrderlyExamples
 pub mod BurstExamples
+pub mod Chosen

@@ -7,5 +7,5 @@ mod laws;
 mod offers;
 
 pub use cycle::choose;
-pub use laws::{choice_examples_law, commute_law, numbered_law};
+pub use laws::{choice_examples_law, chosen_law, commute_law, numbered_law, start_law};
 pub use offers::{Enters, Offers, Replies};
