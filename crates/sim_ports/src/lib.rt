@@ -1,0 +1,11 @@
+//! What stands at the ports of a network in a simulation: drivers that send the requests of a stimulus, and
+//! drivers with devices that answer them.
+#![tactic(auto)]
+
+mod device;
+mod role;
+mod stimulus;
+
+pub use device::Device;
+pub use role::Role;
+pub use stimulus::{Setting, Settings, Stall, Stalls, StimRequest, StimRequests};
