@@ -1,0 +1,5 @@
+pub mod Bytewise
+pub mod Laid
+pub mod Limits
+pub mod Placed
+pub mod Replaced

@@ -1,5 +1,5 @@
 -- Devices: what they hold, what they state of requests, and which requests they may be asked.
-use Rattle.std.specs.Prelude.{ℕ, ◌≡◌, ◌+◌, ◌<◌, ◌≤◌, ◌^◌, ◌↔◌, List, Bool, true, false, cond, Option, IsSome, IsTrue, Contains}
+use Rattle.std.specs.Prelude.{ℕ, ◌+◌, ◌<◌, ◌≤◌, ◌^◌, ◌↔◌, List, Bool, true, false, cond, Option, IsSome, IsTrue, Contains}
 use Rattle.tl_params.specs.declared.ops.Op.{Op}
 use Rattle.tl_params.specs.declared.ops.Op.TheVariants.{PutFull, PutPartial, Arithmetic, Logical, Get, Intent}
 use Rattle.tl_edge.specs.declared.message.Request.{Request}

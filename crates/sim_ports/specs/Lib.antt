@@ -1,1 +1,5 @@
 pub mod Devices
+pub mod Atomics
+pub mod Memories
+pub mod Layout
+pub mod Kept

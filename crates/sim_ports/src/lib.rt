@@ -2,10 +2,17 @@
 //! drivers with devices that answer them.
 #![tactic(auto)]
 
+mod atomics;
+mod cells;
 mod device;
+mod laid_out;
+mod memory;
+mod numbers;
 mod role;
+mod runs;
 mod stimulus;
 
+pub use cells::Cells;
 pub use device::Device;
 pub use role::Role;
 pub use stimulus::{Setting, Settings, Stall, Stalls, StimRequest, StimRequests};
