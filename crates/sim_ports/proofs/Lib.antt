@@ -1,5 +1,6 @@
 pub mod Bytewise
 pub mod Laid
 pub mod Limits
+pub mod Onward
 pub mod Placed
 pub mod Replaced

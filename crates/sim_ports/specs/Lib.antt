@@ -3,3 +3,4 @@ pub mod Atomics
 pub mod Memories
 pub mod Layout
 pub mod Kept
+pub mod Sources

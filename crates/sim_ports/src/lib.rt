@@ -10,9 +10,11 @@ mod memory;
 mod numbers;
 mod role;
 mod runs;
+mod source;
 mod stimulus;
 
 pub use cells::Cells;
 pub use device::Device;
 pub use role::Role;
+pub use source::{Sent, SourceDriver};
 pub use stimulus::{Setting, Settings, Stall, Stalls, StimRequest, StimRequests};
