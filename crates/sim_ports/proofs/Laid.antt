@@ -13,8 +13,8 @@ use Rattle.std.proofs.lemmas.Map.Views.{Contains-from_any, list_any-from_Contain
 use Rattle.std.specs.List.{list_any}
 use Rattle.sim_ports.specs.declared.role.Role.{Role}
 use Rattle.sim_ports.specs.declared.runs.Run.{Run}
-use Rattle.sim_ports.specs.Devices.{HasJust, Held}
-use Rattle.sim_ports.specs.Layout.{AreSpaced, IsLaidOut, IsLaying, has, kept, place_in, place_of}
+use Rattle.sim_ports.specs.Devices.{HasJust, HeldBytes}
+use Rattle.sim_ports.specs.Layout.{AreSpaced, IsLaidOut, IsLaying, run_has, kept, place_in, place_in_runs}
 use Rattle.sim_ports.specs.Memories.{first_byte, first_held}
 use Rattle.sim_ports.proofs.Placed.{having, lacks, within, is_had, is_below, is_above}
 
@@ -27,38 +27,38 @@ spaced_more low place high end (r ∷ runs) run s h p =
     (s.0, s.1, spaced_more (r.first + r.count + 1) (place + r.count) high end runs run s.2 h p)
 
 -- a run without the address makes no difference
-none_more : (runs : List Run) (run : Run) (x : ℕ) → has run x ≡ false → place_of (runs ++ run ∷ []) x ≡ place_of runs x
+none_more : (runs : List Run) (run : Run) (x : ℕ) → run_has run x ≡ false → place_in_runs (runs ++ run ∷ []) x ≡ place_in_runs runs x
 none_more [] run x f = rw f refl
-none_more (r ∷ runs) run x f = ap (λ o. cond (has r x) (Some (r.place + (x - r.first))) o) (none_more runs run x f)
+none_more (r ∷ runs) run x f = ap (λ o. cond (run_has r x) (Some (r.place + (x - r.first))) o) (none_more runs run x f)
 
 -- nor does one that has it as another has it
 like_more : (runs : List Run) (run other : Run) (x : ℕ) → place_in other x ≡ place_in run x
-    → place_of (runs ++ other ∷ []) x ≡ place_of (runs ++ run ∷ []) x
+    → place_in_runs (runs ++ other ∷ []) x ≡ place_in_runs (runs ++ run ∷ []) x
 like_more [] run other x e = e
-like_more (r ∷ runs) run other x e = ap (λ o. cond (has r x) (Some (r.place + (x - r.first))) o) (like_more runs run other x e)
+like_more (r ∷ runs) run other x e = ap (λ o. cond (run_has r x) (Some (r.place + (x - r.first))) o) (like_more runs run other x e)
 
 -- where no earlier run has the address, the last one decides
-last_more : (runs : List Run) (run : Run) (x : ℕ) → place_of runs x ≡ None → place_of (runs ++ run ∷ []) x ≡ place_in run x
+last_more : (runs : List Run) (run : Run) (x : ℕ) → place_in_runs runs x ≡ None → place_in_runs (runs ++ run ∷ []) x ≡ place_in run x
 last_more [] run x e = refl
 last_more (r ∷ runs) run x e =
     elim (having r x) [
       | is_had l h t ↦
-          let now : cond (has r x) (Some (r.place + (x - r.first))) (place_of runs x) ≡ None = e in
+          let now : cond (run_has r x) (Some (r.place + (x - r.first))) (place_in_runs runs x) ≡ None = e in
           let no_way : Some (r.place + (x - r.first)) ≡ None = rw t at now in
           cc
       | is_below l f ↦
-          let now : cond (has r x) (Some (r.place + (x - r.first))) (place_of runs x) ≡ None = e in
-          let rest : place_of runs x ≡ None = rw f at now in
-          let P : Bool → Type 0 = λ b. cond b (Some (r.place + (x - r.first))) (place_of (runs ++ run ∷ []) x) ≡ place_in run x in
+          let now : cond (run_has r x) (Some (r.place + (x - r.first))) (place_in_runs runs x) ≡ None = e in
+          let rest : place_in_runs runs x ≡ None = rw f at now in
+          let P : Bool → Type 0 = λ b. cond b (Some (r.place + (x - r.first))) (place_in_runs (runs ++ run ∷ []) x) ≡ place_in run x in
           subst P (sym f) (last_more runs run x rest)
       | is_above l f ↦
-          let now : cond (has r x) (Some (r.place + (x - r.first))) (place_of runs x) ≡ None = e in
-          let rest : place_of runs x ≡ None = rw f at now in
-          let P : Bool → Type 0 = λ b. cond b (Some (r.place + (x - r.first))) (place_of (runs ++ run ∷ []) x) ≡ place_in run x in
+          let now : cond (run_has r x) (Some (r.place + (x - r.first))) (place_in_runs runs x) ≡ None = e in
+          let rest : place_in_runs runs x ≡ None = rw f at now in
+          let P : Bool → Type 0 = λ b. cond b (Some (r.place + (x - r.first))) (place_in_runs (runs ++ run ∷ []) x) ≡ place_in run x in
           subst P (sym f) (last_more runs run x rest)
     ]
 
-pub holds : (run : Run) (x : ℕ) → run.first ≤ x → x < run.first + run.count → has run x ≡ true
+pub holds : (run : Run) (x : ℕ) → run.first ≤ x → x < run.first + run.count → run_has run x ≡ true
 holds run x l h =
     elim (having run x) [
       | is_had a b t ↦ t
@@ -90,10 +90,10 @@ longer_new run x e =
     let k : x - run.first ≡ run.count = omega (arith, e) in
     rw (t, k) refl
 
-none_from : (low place high end x : ℕ) (runs : List Run) → AreSpaced low place runs high end → high ≤ x → place_of runs x ≡ None
-none_from low place high end x runs s h = go (place_of runs x) refl
+none_from : (low place high end x : ℕ) (runs : List Run) → AreSpaced low place runs high end → high ≤ x → place_in_runs runs x ≡ None
+none_from low place high end x runs s h = go (place_in_runs runs x) refl
   where
-    go : (o : Option ℕ) → place_of runs x ≡ o → place_of runs x ≡ None
+    go : (o : Option ℕ) → place_in_runs runs x ≡ o → place_in_runs runs x ≡ None
     go None e = e
     go (Some p) e =
         let w = within low place high end x p runs s e in
@@ -119,7 +119,7 @@ seen_new addresses i x h e =
     ∙ or-true (list_any (nat_eq x) (take i addresses))
 
 -- a run with no address has none
-empty : (first place x : ℕ) → has (record { first = first; count = 0; place = place }) x ≡ false
+empty : (first place x : ℕ) → run_has (record { first = first; count = 0; place = place }) x ≡ false
 empty first place x =
     elim (having (record { first = first; count = 0; place = place }) x) [
       | is_had a b t ↦ absurd (omega (arith, a, b))
@@ -139,7 +139,7 @@ laying_start role first = record {
   at = λ x. let f = empty first 0 x in rw f refl;
 }
 
-pub laying_gap : (held : Held) (few : ℕ) (runs : List Run) (run : Run) (bytes : List ℕ) (address place : ℕ)
+pub laying_gap : (held : HeldBytes) (few : ℕ) (runs : List Run) (run : Run) (bytes : List ℕ) (address place : ℕ)
     → IsLaying held few runs run bytes → run.first + run.count < address → length bytes ≡ place
     → IsLaying held few (runs ++ run ∷ []) (record { first = address; count = 0; place = place }) bytes
 laying_gap held few runs run bytes address place l h p = record {
@@ -168,10 +168,10 @@ laying_same role few runs run bytes addresses i address l h e f m = record {
   at = λ x. l.at x ∙ ap (λ b. cond b (Some (first_byte role x)) None) (sym (seen_same addresses i x h (was x)));
 }
   where
-    none : place_of runs address ≡ None
+    none : place_in_runs runs address ≡ None
     none = none_from 0 0 l.high run.place address runs l.spaced (omega (arith, l.apart, f))
 
-    here : place_of (runs ++ run ∷ []) address ≡ Some (run.place + (address - run.first))
+    here : place_in_runs (runs ++ run ∷ []) address ≡ Some (run.place + (address - run.first))
     here = last_more runs run address none ∙ ap (λ b. cond b (Some (run.place + (address - run.first))) None) (holds run address f (omega (arith, f, m)))
 
     there : first_held role (take i addresses) address ≡ Some (get_or bytes (run.place + (address - run.first)) 0)
@@ -199,10 +199,10 @@ laying_more role few runs run bytes addresses i address byte l h e f b = record 
   at = λ x. go x (nat_eq x address) refl;
 }
   where
-    none : place_of runs address ≡ None
+    none : place_in_runs runs address ≡ None
     none = none_from 0 0 l.high run.place address runs l.spaced (omega (arith, l.apart, f))
 
-    here : place_of (runs ++ longer run ∷ []) address ≡ Some (length bytes)
+    here : place_in_runs (runs ++ longer run ∷ []) address ≡ Some (length bytes)
     here = last_more runs (longer run) address none ∙ longer_new run address (sym f) ∙ ap Some l.ends
 
     new_byte : get_or (bytes ++ byte ∷ []) (length bytes) 0 ≡ byte
@@ -211,7 +211,7 @@ laying_more role few runs run bytes addresses i address byte l h e f b = record 
         the_same : (n : ℕ) → n - n ≡ 0
         the_same n = omega arith
 
-    old_bytes : (x : ℕ) (o : Option ℕ) → place_of (runs ++ run ∷ []) x ≡ o
+    old_bytes : (x : ℕ) (o : Option ℕ) → place_in_runs (runs ++ run ∷ []) x ≡ o
         → option_map (λ k. get_or (bytes ++ byte ∷ []) k 0) o ≡ option_map (λ k. get_or bytes k 0) o
     old_bytes x None k = refl
     old_bytes x (Some p) k =
@@ -224,14 +224,14 @@ laying_more role few runs run bytes addresses i address byte l h e f b = record 
     go x true k =
         let a : x ≡ address = eqb-true x address k in
         let seen = seen_new addresses i address h e in
-        let held : option_map (λ k. get_or (bytes ++ byte ∷ []) k 0) (place_of (runs ++ longer run ∷ []) address) ≡ Some (first_byte role address) =
+        let held : option_map (λ k. get_or (bytes ++ byte ∷ []) k 0) (place_in_runs (runs ++ longer run ∷ []) address) ≡ Some (first_byte role address) =
         ap (option_map (λ k. get_or (bytes ++ byte ∷ []) k 0)) here ∙ ap Some (new_byte ∙ b) in
         rw a (held ∙ sym (ap (λ c. cond c (Some (first_byte role address)) None) seen))
     go x false k =
         let n : x ≡ address → ⊥ = eqb-false x address k in
         let same = like_more runs run (longer run) x (longer_same run x (λ m. n (m ∙ f))) in
         ap (option_map (λ k. get_or (bytes ++ byte ∷ []) k 0)) same
-        ∙ old_bytes x (place_of (runs ++ run ∷ []) x) refl
+        ∙ old_bytes x (place_in_runs (runs ++ run ∷ []) x) refl
         ∙ l.at x
         ∙ ap (λ c. cond c (Some (first_byte role x)) None) (sym (seen_same addresses i x h (λ m. absurd (n (m ∙ sym e)))))
 
@@ -255,7 +255,7 @@ pub any_order : (role : Role) (addresses others : List ℕ) → IsPermutation ad
 any_order role addresses others p =
     fun_ext (λ x. ap (λ b. cond b (Some (first_byte role x)) None) (sym (list_any-IsPermutation (nat_eq x) addresses others p)))
 
-pub just : (role : Role) (addresses : List ℕ) (held : Held) → held ≡ first_held role addresses → HasJust addresses held
+pub just : (role : Role) (addresses : List ℕ) (held : HeldBytes) → held ≡ first_held role addresses → HasJust addresses held
 just role addresses held e x = (to, from)
   where
     to : IsSome (held x) → Contains addresses x

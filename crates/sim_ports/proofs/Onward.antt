@@ -15,7 +15,7 @@ use Rattle.tl_edge.specs.declared.message.Request.{Request}
 use Rattle.tl_edge.specs.Beats.{a_beat, request_beats}
 use Rattle.tl_edge.proofs.Heads.{heads_law}
 use Rattle.sim_ports.specs.declared.source.Sent.{Sent}
-use Rattle.sim_ports.specs.Sources.{IsSending, MayBeSent, PartFits, Script, Sending, Sends, beats_due, begun_at, begun_of, due, entered, finished_at, is_busy, is_enter, is_return, next_of, offer_of, offers_now, one_more, returned, sent_at, sent_of, source_offers, waits_for}
+use Rattle.sim_ports.specs.Sources.{IsSending, MayBeSent, PartFits, Script, Sending, Sends, beats_due, begun_at, begun_of, due_with_id, entered, finished_at, is_busy, is_enter, is_return, one_beat_more, offer_of, offers_now, one_more, returned, sent_at, sent_of, source_offers, waits_for}
 
 -- ---- counting
 
@@ -31,7 +31,7 @@ nothing_sent width (r ∷ rs) =
     let t : nat_lt 0 (request_beats r.op r.size width) ≡ true = lt-ltb 0 (request_beats r.op r.size width) (omega (arith, some)) in
     rw t refl
 
-next_one_more : (s : Sent) (beats : ℕ) → next_of (one_more s) beats ≡ one_more (next_of s beats)
+next_one_more : (s : Sent) (beats : ℕ) → one_beat_more (one_more s) beats ≡ one_more (one_beat_more s beats)
 next_one_more s beats = go (nat_eq (s.part + 1) beats)
   where
     go : (b : Bool) → cond b (record { whole = suc s.whole + 1; part = 0 }) (record { whole = suc s.whole; part = s.part + 1 })
@@ -41,13 +41,13 @@ next_one_more s beats = go (nat_eq (s.part + 1) beats)
 
 pub sent_next : (width : ℕ) (requests : List Request) (n : ℕ) (r : Request)
     → slice_get requests (sent_of width requests n).whole ≡ Some r
-    → sent_of width requests (n + 1) ≡ next_of (sent_of width requests n) (request_beats r.op r.size width)
+    → sent_of width requests (n + 1) ≡ one_beat_more (sent_of width requests n) (request_beats r.op r.size width)
 sent_next width [] n r e = cc
 sent_next width (q ∷ qs) n r e = go (λ k there. sent_next width qs k r there) (nat_lt n (request_beats q.op q.size width)) refl
   where
-    go : ((k : ℕ) → slice_get qs (sent_of width qs k).whole ≡ Some r → sent_of width qs (k + 1) ≡ next_of (sent_of width qs k) (request_beats r.op r.size width))
+    go : ((k : ℕ) → slice_get qs (sent_of width qs k).whole ≡ Some r → sent_of width qs (k + 1) ≡ one_beat_more (sent_of width qs k) (request_beats r.op r.size width))
         → (b : Bool) → nat_lt n (request_beats q.op q.size width) ≡ b
-        → sent_of width (q ∷ qs) (n + 1) ≡ next_of (sent_of width (q ∷ qs) n) (request_beats r.op r.size width)
+        → sent_of width (q ∷ qs) (n + 1) ≡ one_beat_more (sent_of width (q ∷ qs) n) (request_beats r.op r.size width)
     go later true t = first (nat_lt (n + 1) (request_beats q.op q.size width)) refl
       where
         now : sent_of width (q ∷ qs) n ≡ record { whole = 0; part = n }
@@ -59,7 +59,7 @@ sent_next width (q ∷ qs) n r e = go (λ k there. sent_next width qs k r there)
             cc
 
         first : (b : Bool) → nat_lt (n + 1) (request_beats q.op q.size width) ≡ b
-            → sent_of width (q ∷ qs) (n + 1) ≡ next_of (sent_of width (q ∷ qs) n) (request_beats r.op r.size width)
+            → sent_of width (q ∷ qs) (n + 1) ≡ one_beat_more (sent_of width (q ∷ qs) n) (request_beats r.op r.size width)
         first true u =
             let more = ltb-true (n + 1) (request_beats q.op q.size width) u in
             let f : nat_eq (n + 1) (request_beats q.op q.size width) ≡ false = ne_eqb (n + 1) (request_beats q.op q.size width) (λ k. omega (arith, more, k)) in
@@ -71,7 +71,7 @@ sent_next width (q ∷ qs) n r e = go (λ k there. sent_next width qs k r there)
             let none : n + 1 - request_beats q.op q.size width ≡ 0 = omega (arith, less, most) in
             let whole : sent_of width (q ∷ qs) (n + 1) ≡ record { whole = 1; part = 0 } =
             rw (u, none, nothing_sent width qs) refl in
-            let there : next_of (sent_of width (q ∷ qs) n) (request_beats r.op r.size width) ≡ record { whole = 1; part = 0 } =
+            let there : one_beat_more (sent_of width (q ∷ qs) n) (request_beats r.op r.size width) ≡ record { whole = 1; part = 0 } =
             rw (now, ← it, f) refl in
             whole ∙ sym there
     go later false t =
@@ -86,11 +86,11 @@ sent_next width (q ∷ qs) n r e = go (λ k there. sent_next width qs k r there)
         rw (u, left) refl in
         whole ∙ ap one_more rest
         ∙ sym (next_one_more (sent_of width qs (n - request_beats q.op q.size width)) (request_beats r.op r.size width))
-        ∙ ap (λ s. next_of s (request_beats r.op r.size width)) (sym now)
+        ∙ ap (λ s. one_beat_more s (request_beats r.op r.size width)) (sym now)
 
 -- ---- what begins
 
-begun_now : (s : Sent) (beats : ℕ) → begun_of (next_of s beats) ≡ s.whole + 1
+begun_now : (s : Sent) (beats : ℕ) → begun_of (one_beat_more s beats) ≡ s.whole + 1
 begun_now s beats = go (nat_eq (s.part + 1) beats)
   where
     some : nat_eq (s.part + 1) 0 ≡ false
@@ -101,7 +101,7 @@ begun_now s beats = go (nat_eq (s.part + 1) beats)
     go false = rw some refl
 
 due_more : (width whole id : ℕ) (requests : List Request) (r : Request) → slice_get requests whole ≡ Some r
-    → due width requests (whole + 1) id ≡ due width requests whole id + cond (nat_eq r.source id) (beats_due width r) 0
+    → due_with_id width requests (whole + 1) id ≡ due_with_id width requests whole id + cond (nat_eq r.source id) (beats_due width r) 0
 due_more width whole id requests r e =
     let h = slice_get_within requests whole r e in
     let at : get_or requests whole r ≡ r = get_or_from_slice_get requests whole r r e in
@@ -130,7 +130,7 @@ sent_some width requests p (Some r) f h = (r, refl)
 -- the driver after a beat of a request has entered
 abbrev pub gone_on : Sending → Request → List ℕ → Sending
 gone_on driver r left =
-    record driver { sent = next_of driver.sent (request_beats r.op r.size driver.width); left = left }
+    record driver { sent = one_beat_more driver.sent (request_beats r.op r.size driver.width); left = left }
 
 -- what is left for each id
 abbrev pub marked : Sending → Request → List ℕ
@@ -210,12 +210,12 @@ sends_entered script history event driver r left cycle h s i e o m = record {
         let a : slice_get script.requests driver.sent.whole ≡ Some r = rw (← s.requests) e in
         subst (λ (t : Sent). slice_get script.requests t.whole ≡ Some r) s.sent a
 
-    more : sent_at script (history ++ event ∷ []) ≡ next_of (sent_at script history) (request_beats r.op r.size script.width)
+    more : sent_at script (history ++ event ∷ []) ≡ one_beat_more (sent_at script history) (request_beats r.op r.size script.width)
     more = ap (sent_of script.width script.requests) (entered_one history event h) ∙ sent_next script.width script.requests (entered history) r there
 
-    now : next_of driver.sent (request_beats r.op r.size driver.width) ≡ sent_at script (history ++ event ∷ [])
-    now = ap (λ t. next_of t (request_beats r.op r.size driver.width)) s.sent
-        ∙ ap (λ w. next_of (sent_at script history) (request_beats r.op r.size w)) s.width ∙ sym more
+    now : one_beat_more driver.sent (request_beats r.op r.size driver.width) ≡ sent_at script (history ++ event ∷ [])
+    now = ap (λ t. one_beat_more t (request_beats r.op r.size driver.width)) s.sent
+        ∙ ap (λ w. one_beat_more (sent_at script history) (request_beats r.op r.size w)) s.width ∙ sym more
 
     begun : begun_at script (history ++ event ∷ []) ≡ driver.sent.whole + 1
     begun = ap begun_of (sym now) ∙ begun_now driver.sent (request_beats r.op r.size driver.width)
@@ -239,11 +239,11 @@ sends_entered script history event driver r left cycle h s i e o m = record {
         let it : get_or driver.requests driver.sent.whole r ≡ r = get_or_from_slice_get driver.requests driver.sent.whole r r e in
         (subst (λ q. MayBeSent (length driver.left) q) it (i.requests driver.sent.whole r h)).id
 
-    at_id : (id : ℕ) → get_or driver.left id 0 + returned history id ≡ due script.width script.requests driver.sent.whole id
+    at_id : (id : ℕ) → get_or driver.left id 0 + returned history id ≡ due_with_id script.width script.requests driver.sent.whole id
         → returned (history ++ event ∷ []) id ≡ returned history id → get_or driver.left r.source 0 ≡ 0
         → (b : Bool) → nat_eq r.source id ≡ b
         → get_or (set driver.left r.source (beats_due driver.width r)) id 0 + returned (history ++ event ∷ []) id
-        ≡ due script.width script.requests driver.sent.whole id + cond (nat_eq r.source id) (beats_due script.width r) 0
+        ≡ due_with_id script.width script.requests driver.sent.whole id + cond (nat_eq r.source id) (beats_due script.width r) 0
     at_id id so same zero_left true k =
         let a : r.source ≡ id = eqb-true r.source id k in
         let put : get_or (set driver.left r.source (beats_due driver.width r)) id 0 ≡ beats_due script.width r =
@@ -259,25 +259,25 @@ sends_entered script history event driver r left cycle h s i e o m = record {
         let sum : cond (nat_eq r.source id) (beats_due script.width r) 0 ≡ 0 = rw k refl in
         omega (arith, put, sum, so, same)
 
-    go : (id : ℕ) → due script.width script.requests (begun_at script (history ++ event ∷ [])) id
-        ≡ due script.width script.requests driver.sent.whole id + cond (nat_eq r.source id) (beats_due script.width r) 0
+    go : (id : ℕ) → due_with_id script.width script.requests (begun_at script (history ++ event ∷ [])) id
+        ≡ due_with_id script.width script.requests driver.sent.whole id + cond (nat_eq r.source id) (beats_due script.width r) 0
         → returned (history ++ event ∷ []) id ≡ returned history id
-        → get_or driver.left id 0 + returned history id ≡ due script.width script.requests (begun_at script history) id
+        → get_or driver.left id 0 + returned history id ≡ due_with_id script.width script.requests (begun_at script history) id
         → (b : Bool) → nat_eq driver.sent.part 0 ≡ b
-        → get_or left id 0 + returned (history ++ event ∷ []) id ≡ due script.width script.requests (begun_at script (history ++ event ∷ [])) id
+        → get_or left id 0 + returned (history ++ event ∷ []) id ≡ due_with_id script.width script.requests (begun_at script (history ++ event ∷ [])) id
     go id target same was false z =
         let kept : left ≡ driver.left = m ∙ ap (λ b. cond b (set driver.left r.source (beats_due driver.width r)) driver.left) z in
         let old : begun_at script history ≡ driver.sent.whole + 1 = before ∙ ap (λ b. cond b driver.sent.whole (driver.sent.whole + 1)) z in
         ap (λ xs. get_or xs id 0 + returned (history ++ event ∷ []) id) kept
         ∙ ap (λ n. get_or driver.left id 0 + n) same ∙ was
-        ∙ ap (λ n. due script.width script.requests n id) old
-        ∙ ap (λ n. due script.width script.requests n id) (sym begun)
+        ∙ ap (λ n. due_with_id script.width script.requests n id) old
+        ∙ ap (λ n. due_with_id script.width script.requests n id) (sym begun)
     go id target same was true z =
         let kept : left ≡ set driver.left r.source (beats_due driver.width r) =
         m ∙ ap (λ b. cond b (set driver.left r.source (beats_due driver.width r)) driver.left) z in
         let old : begun_at script history ≡ driver.sent.whole = before ∙ ap (λ b. cond b driver.sent.whole (driver.sent.whole + 1)) z in
-        let so : get_or driver.left id 0 + returned history id ≡ due script.width script.requests driver.sent.whole id =
-        was ∙ ap (λ n. due script.width script.requests n id) old in
+        let so : get_or driver.left id 0 + returned history id ≡ due_with_id script.width script.requests driver.sent.whole id =
+        was ∙ ap (λ n. due_with_id script.width script.requests n id) old in
         let free : not (nat_eq (get_or driver.left r.source 0) 0) ≡ false =
         free_first driver.width r driver.sent.part (get_or driver.starts driver.sent.whole 0) cycle (waits_for driver) (rw e at o) z in
         ap (λ xs. get_or xs id 0 + returned (history ++ event ∷ []) id) kept
@@ -285,11 +285,11 @@ sends_entered script history event driver r left cycle h s i e o m = record {
         ∙ sym target
 
     each : (id : ℕ) → id < script.ids → get_or left id 0 + returned (history ++ event ∷ []) id
-        ≡ due script.width script.requests (begun_at script (history ++ event ∷ [])) id
+        ≡ due_with_id script.width script.requests (begun_at script (history ++ event ∷ [])) id
     each id l =
-        let target : due script.width script.requests (begun_at script (history ++ event ∷ [])) id
-        ≡ due script.width script.requests driver.sent.whole id + cond (nat_eq r.source id) (beats_due script.width r) 0 =
-        ap (λ n. due script.width script.requests n id) begun ∙ due_more script.width driver.sent.whole id script.requests r at in
+        let target : due_with_id script.width script.requests (begun_at script (history ++ event ∷ [])) id
+        ≡ due_with_id script.width script.requests driver.sent.whole id + cond (nat_eq r.source id) (beats_due script.width r) 0 =
+        ap (λ n. due_with_id script.width script.requests n id) begun ∙ due_more script.width driver.sent.whole id script.requests r at in
         let same = returned_same history event id h in
         let was = s.left id l in
         go id target same was (nat_eq driver.sent.part 0) refl
@@ -336,10 +336,10 @@ sends_returned script history event beat driver left w s busy m = record {
     known (suc k) (x ∷ xs) n = let more = known k xs n in omega (arith, more)
 
     at_id : (id : ℕ) → returned (history ++ event ∷ []) id ≡ returned history id + cond (nat_eq beat.source id) 1 0
-        → get_or driver.left id 0 + returned history id ≡ due script.width script.requests (begun_at script history) id
+        → get_or driver.left id 0 + returned history id ≡ due_with_id script.width script.requests (begun_at script history) id
         → (b : Bool) → nat_eq beat.source id ≡ b
         → get_or (set driver.left beat.source (get_or driver.left beat.source 0 - 1)) id 0 + returned (history ++ event ∷ []) id
-        ≡ due script.width script.requests (begun_at script history) id
+        ≡ due_with_id script.width script.requests (begun_at script history) id
     at_id id after so true k =
         let a : beat.source ≡ id = eqb-true beat.source id k in
         let put : get_or (set driver.left beat.source (get_or driver.left beat.source 0 - 1)) id 0 ≡ get_or driver.left id 0 - 1 =
@@ -357,11 +357,11 @@ sends_returned script history event beat driver left w s busy m = record {
         omega (arith, put, none, after, so)
 
     each : (id : ℕ) → id < script.ids → get_or left id 0 + returned (history ++ event ∷ []) id
-        ≡ due script.width script.requests (begun_at script (history ++ event ∷ [])) id
+        ≡ due_with_id script.width script.requests (begun_at script (history ++ event ∷ [])) id
     each id l =
         ap (λ xs. get_or xs id 0 + returned (history ++ event ∷ []) id) m
         ∙ at_id id (more id) (s.left id l) (nat_eq beat.source id) refl
-        ∙ ap (λ n. due script.width script.requests n id) (sym begun)
+        ∙ ap (λ n. due_with_id script.width script.requests n id) (sym begun)
 
 -- ---- what is offered, and what has finished
 
@@ -442,7 +442,7 @@ sends_nothing script left may e = record {
   left = λ id l.
       let none : get_or left id 0 ≡ 0 = ap (λ xs. get_or xs id 0) e ∙ get_or-replicate script.ids id 0 0 l in
       let begun : begun_at script [] ≡ 0 = ap begun_of (nothing_sent script.width script.requests) in
-      ap (λ n. n + returned [] id) none ∙ sym (ap (λ n. due script.width script.requests n id) begun);
+      ap (λ n. n + returned [] id) none ∙ sym (ap (λ n. due_with_id script.width script.requests n id) begun);
 }
 
 -- no beats are to come for an id that isn't there

@@ -2,15 +2,15 @@
 use Rattle.std.proofs.Common.{◌≡◌, ℕ, zero, suc, ◌+◌, ◌-◌, ◌<◌, ◌≤◌, ◌⊎◌, Bool, true, false, cond, Option, Some, None, List, [], ◌∷◌, length, get_or, refl, ap, sym, subst, ◌∙◌, inl, inr, arith}
 use Rattle.std.proofs.lemmas.Bool.Decides.{leb_tells}
 use Rattle.sim_ports.specs.declared.runs.Run.{Run}
-use Rattle.sim_ports.specs.Layout.{AreSpaced, AllBegin, NoneBegins, has, no_run, place_in, place_of}
+use Rattle.sim_ports.specs.Layout.{AreSpaced, AllBegin, NoneBegins, run_has, no_run, place_in, place_in_runs}
 
 -- ---- one run
 
 -- a run has an address, or it has it not
 pub data Having (run : Run) (address : ℕ) : Type 0 where
-  is_had : run.first ≤ address → address < run.first + run.count → has run address ≡ true → Having run address
-  is_below : address < run.first → has run address ≡ false → Having run address
-  is_above : run.first + run.count ≤ address → has run address ≡ false → Having run address
+  is_had : run.first ≤ address → address < run.first + run.count → run_has run address ≡ true → Having run address
+  is_below : address < run.first → run_has run address ≡ false → Having run address
+  is_above : run.first + run.count ≤ address → run_has run address ≡ false → Having run address
 
 pub having : (run : Run) (address : ℕ) → Having run address
 having run address =
@@ -26,30 +26,30 @@ having run address =
 pub data Standing (run : Run) (runs : List Run) (address place : ℕ) : Type 0 where
   in_first : run.first ≤ address → address < run.first + run.count → place ≡ run.place + (address - run.first)
       → Standing run runs address place
-  in_later : place_of runs address ≡ Some place → Standing run runs address place
+  in_later : place_in_runs runs address ≡ Some place → Standing run runs address place
 
-pub standing : (run : Run) (runs : List Run) (address place : ℕ) → place_of (run ∷ runs) address ≡ Some place
+pub standing : (run : Run) (runs : List Run) (address place : ℕ) → place_in_runs (run ∷ runs) address ≡ Some place
     → Standing run runs address place
 standing run runs address place e =
     elim (having run address) [
       | is_had l h t ↦
-          let now : cond (has run address) (Some (run.place + (address - run.first))) (place_of runs address) ≡ Some place = e in
+          let now : cond (run_has run address) (Some (run.place + (address - run.first))) (place_in_runs runs address) ≡ Some place = e in
           let is : Some (run.place + (address - run.first)) ≡ Some place = rw t at now in
           in_first l h (cc)
       | is_below l f ↦
-          let now : cond (has run address) (Some (run.place + (address - run.first))) (place_of runs address) ≡ Some place = e in
+          let now : cond (run_has run address) (Some (run.place + (address - run.first))) (place_in_runs runs address) ≡ Some place = e in
           in_later (rw f at now)
       | is_above l f ↦
-          let now : cond (has run address) (Some (run.place + (address - run.first))) (place_of runs address) ≡ Some place = e in
+          let now : cond (run_has run address) (Some (run.place + (address - run.first))) (place_in_runs runs address) ≡ Some place = e in
           in_later (rw f at now)
     ]
 
-not_first : (run : Run) (runs : List Run) (address : ℕ) → has run address ≡ false → place_of (run ∷ runs) address ≡ place_of runs address
+not_first : (run : Run) (runs : List Run) (address : ℕ) → run_has run address ≡ false → place_in_runs (run ∷ runs) address ≡ place_in_runs runs address
 not_first run runs address f =
-    let P : Bool → Type 0 = λ b. cond b (Some (run.place + (address - run.first))) (place_of runs address) ≡ place_of runs address in
+    let P : Bool → Type 0 = λ b. cond b (Some (run.place + (address - run.first))) (place_in_runs runs address) ≡ place_in_runs runs address in
     subst P (sym f) refl
 
-pub lacks : (run : Run) (address : ℕ) → address < run.first ⊎ run.first + run.count ≤ address → has run address ≡ false
+pub lacks : (run : Run) (address : ℕ) → address < run.first ⊎ run.first + run.count ≤ address → run_has run address ≡ false
 lacks run address h =
     elim (having run address) [
       | is_had l m t ↦ absurd (elim h [ inl b ↦ omega (arith, b, l) | inr a ↦ omega (arith, a, m) ])
@@ -67,7 +67,7 @@ ends low place high end (run ∷ runs) s =
     (omega (arith, s.0, more.0), omega (arith, more.1))
 
 pub none_below : (low place high end address : ℕ) (runs : List Run) → AreSpaced low place runs high end → address < low
-    → place_of runs address ≡ None
+    → place_in_runs runs address ≡ None
 none_below low place high end address [] s h = refl
 none_below low place high end address (run ∷ runs) s h =
     not_first run runs address (lacks run address (inl (omega (arith, s.0, h))))
@@ -81,7 +81,7 @@ pub record IsWithin (low place high end address at : ℕ) : Type 0 where
   pub place_to : at < end
 
 pub within : (low place high end address at : ℕ) (runs : List Run) → AreSpaced low place runs high end
-    → place_of runs address ≡ Some at → IsWithin low place high end address at
+    → place_in_runs runs address ≡ Some at → IsWithin low place high end address at
 within low place high end address at [] s e = absurd (cc)
 within low place high end address at (run ∷ runs) s e =
     let last = ends (run.first + run.count + 1) (place + run.count) high end runs s.2 in
@@ -104,7 +104,7 @@ within low place high end address at (run ∷ runs) s e =
 
 -- higher addresses have higher places
 pub rising : (low place high end a b p q : ℕ) (runs : List Run) → AreSpaced low place runs high end → a < b
-    → place_of runs a ≡ Some p → place_of runs b ≡ Some q → p < q
+    → place_in_runs runs a ≡ Some p → place_in_runs runs b ≡ Some q → p < q
 rising low place high end a b p q [] s h e f = absurd (cc)
 rising low place high end a b p q (run ∷ runs) s h e f =
     elim (standing run runs a p e) [
@@ -124,7 +124,7 @@ rising low place high end a b p q (run ∷ runs) s h e f =
 
 -- an address after another has the place after it
 pub next_place : (low place high end a p q : ℕ) (runs : List Run) → AreSpaced low place runs high end
-    → place_of runs a ≡ Some p → place_of runs (a + 1) ≡ Some q → q ≡ p + 1
+    → place_in_runs runs a ≡ Some p → place_in_runs runs (a + 1) ≡ Some q → q ≡ p + 1
 next_place low place high end a p q [] s e f = absurd (cc)
 next_place low place high end a p q (run ∷ runs) s e f =
     elim (standing run runs a p e) [
@@ -150,7 +150,7 @@ in_last runs zero address = None
 in_last runs (suc last) address = place_in (get_or runs last no_run) address
 
 pub none_begun : (low place high end address : ℕ) (runs : List Run) → AreSpaced low place runs high end
-    → ((k : ℕ) → k < length runs → address < (get_or runs k no_run).first) → place_of runs address ≡ None
+    → ((k : ℕ) → k < length runs → address < (get_or runs k no_run).first) → place_in_runs runs address ≡ None
 none_begun low place high end address [] s above = refl
 none_begun low place high end address (run ∷ runs) s above =
     not_first run runs address (lacks run address (inl (above 0 (omega arith))))
@@ -160,14 +160,14 @@ none_begun low place high end address (run ∷ runs) s above =
 pub found : (low place high end address begun : ℕ) (runs : List Run) → AreSpaced low place runs high end
     → begun ≤ length runs
     → AllBegin runs address begun → NoneBegins runs address begun
-    → place_of runs address ≡ in_last runs begun address
+    → place_in_runs runs address ≡ in_last runs begun address
 found low place high end address zero runs s b below above =
     none_begun low place high end address runs s (λ k h. above k (omega arith) h)
 found low place high end address (suc begun) [] s b below above = absurd (omega arith)
 found low place high end address (suc zero) (run ∷ runs) s b below above =
     let none = none_begun (run.first + run.count + 1) (place + run.count) high end address runs s.2
     (λ k h. above (suc k) (omega arith) (omega (arith, h))) in
-    ap (λ o. cond (has run address) (Some (run.place + (address - run.first))) o) none
+    ap (λ o. cond (run_has run address) (Some (run.place + (address - run.first))) o) none
 found low place high end address (suc (suc begun)) (run ∷ []) s b below above = absurd (omega arith)
 found low place high end address (suc (suc begun)) (run ∷ other ∷ runs) s b below above =
     let begins : other.first ≤ address = below 1 (omega arith) in

@@ -8,8 +8,8 @@ use Rattle.std.proofs.lemmas.List.{get_or-append_right, get_or-drop, get_or-repl
 use Rattle.std.proofs.lemmas.Bool.Decides.{leb_tells}
 use Rattle.std.specs.List.{range_with_len}
 use Rattle.sim_ports.specs.declared.runs.Run.{Run}
-use Rattle.sim_ports.specs.Layout.{AreSpaced, HasPlaces, IsReplaced, kept, place_of}
-use Rattle.sim_ports.specs.Memories.{byte_after, byte_at, bytes_from, written}
+use Rattle.sim_ports.specs.Layout.{AreSpaced, HasPlaces, IsReplaced, kept, place_in_runs}
+use Rattle.sim_ports.specs.Memories.{byte_after, byte_at, bytes_from, after_write}
 use Rattle.sim_ports.proofs.Placed.{next_place, rising, within}
 
 some_is : (o : Option ℕ) → IsSome o → (p : ℕ) × (o ≡ Some p)
@@ -18,24 +18,24 @@ some_is (Some p) h = (p, refl)
 
 -- addresses in a row have places in a row
 pub in_row : (high end start address count number at p : ℕ) (runs : List Run) → AreSpaced 0 0 runs high end
-    → place_of runs address ≡ Some start → HasPlaces runs address count → number < count
-    → at ≡ address + number → p ≡ start + number → place_of runs at ≡ Some p
+    → place_in_runs runs address ≡ Some start → HasPlaces runs address count → number < count
+    → at ≡ address + number → p ≡ start + number → place_in_runs runs at ≡ Some p
 in_row high end start address count zero at p runs s e has h x y =
     let a : at ≡ address = omega arith in
     let b : p ≡ start = omega arith in
     rw (a, b) e
 in_row high end start address count (suc number) at p runs s e has h x y =
     let before = in_row high end start address count number (address + number) (start + number) runs s e has (omega arith) refl refl in
-    let more = some_is (place_of runs (address + suc number)) (has (suc number) h) in
+    let more = some_is (place_in_runs runs (address + suc number)) (has (suc number) h) in
     let a : address + suc number ≡ address + number + 1 = omega arith in
-    let now : place_of runs (address + number + 1) ≡ Some more.0 = subst (λ n. place_of runs n ≡ Some more.0) a more.1 in
+    let now : place_in_runs runs (address + number + 1) ≡ Some more.0 = subst (λ n. place_in_runs runs n ≡ Some more.0) a more.1 in
     let next = next_place 0 0 high end (address + number) (start + number) more.0 runs s before now in
     let b : at ≡ address + suc number = x in
     let d : p ≡ more.0 = omega (arith, next, y) in
     rw (b, d) more.1
 
 pub row_within : (high end start address count : ℕ) (runs : List Run) → AreSpaced 0 0 runs high end
-    → place_of runs address ≡ Some start → HasPlaces runs address count → 1 ≤ count → start + count ≤ end
+    → place_in_runs runs address ≡ Some start → HasPlaces runs address count → 1 ≤ count → start + count ≤ end
 row_within high end start address count runs s e has h =
     let last = in_row high end start address count (count - 1) (address + (count - 1)) (start + (count - 1)) runs s e has (omega arith) refl refl in
     let w = within 0 0 high end (address + (count - 1)) (start + (count - 1)) runs s last in
@@ -44,7 +44,7 @@ row_within high end start address count runs s e has h =
 -- ---- reading
 
 read_from : (high end start address count from left : ℕ) (runs : List Run) (bytes : List ℕ) → AreSpaced 0 0 runs high end
-    → place_of runs address ≡ Some start → HasPlaces runs address count → from + left ≡ count → start + count ≤ length bytes
+    → place_in_runs runs address ≡ Some start → HasPlaces runs address count → from + left ≡ count → start + count ≤ length bytes
     → map (λ number. byte_at (kept runs bytes) (address + number)) (range_with_len from left) ≡ take left (drop (start + from) bytes)
 read_from high end start address count from zero runs bytes s e has l h = refl
 read_from high end start address count from (suc left) runs bytes s e has l h =
@@ -61,7 +61,7 @@ read_from high end start address count from (suc left) runs bytes s e has l h =
     ∙ sym (ap (take (suc left)) whole)
 
 pub read_row : (high start address count : ℕ) (runs : List Run) (bytes : List ℕ) → AreSpaced 0 0 runs high (length bytes)
-    → place_of runs address ≡ Some start → HasPlaces runs address count → start + count ≤ length bytes
+    → place_in_runs runs address ≡ Some start → HasPlaces runs address count → start + count ≤ length bytes
     → bytes_from (kept runs bytes) address count ≡ take count (drop start bytes)
 read_row high start address count runs bytes s e has h =
     let all = read_from high (length bytes) start address count 0 count runs bytes s e has (omega arith) h in
@@ -136,10 +136,10 @@ no_flag (f ∷ flags) (suc k) h = no_flag flags k (omega arith)
 
 -- one byte after the writing
 byte_there : (high end start address x p : ℕ) (flags : List Bool) (others before after : List ℕ) (runs : List Run)
-    → AreSpaced 0 0 runs high end → place_of runs address ≡ Some start → HasPlaces runs address (length others)
+    → AreSpaced 0 0 runs high end → place_in_runs runs address ≡ Some start → HasPlaces runs address (length others)
     → 1 ≤ length others → length flags ≡ length others
     → IsReplaced start (length others) flags others before after
-    → place_of runs x ≡ Some p
+    → place_in_runs runs x ≡ Some p
     → get_or after p 0 ≡ byte_after address flags others x (get_or before p 0)
 byte_there high end start address x p flags others before after runs s e has some f r at =
     elim (leb_tells address x) [
@@ -164,14 +164,14 @@ byte_there high end start address x p flags others before after runs s e has som
     ]
 
 pub kept_after : (high end start address : ℕ) (flags : List Bool) (others before after : List ℕ) (runs : List Run)
-    → AreSpaced 0 0 runs high end → place_of runs address ≡ Some start → HasPlaces runs address (length others)
+    → AreSpaced 0 0 runs high end → place_in_runs runs address ≡ Some start → HasPlaces runs address (length others)
     → 1 ≤ length others → length flags ≡ length others
     → IsReplaced start (length others) flags others before after
-    → kept runs after ≡ written (kept runs before) address flags others
+    → kept runs after ≡ after_write (kept runs before) address flags others
 kept_after high end start address flags others before after runs s e has some f r =
-    fun_ext (λ x. by_place x (place_of runs x) refl)
+    fun_ext (λ x. by_place x (place_in_runs runs x) refl)
   where
-    by_place : (x : ℕ) (o : Option ℕ) → place_of runs x ≡ o
+    by_place : (x : ℕ) (o : Option ℕ) → place_in_runs runs x ≡ o
         → option_map (λ k. get_or after k 0) o ≡ option_map (byte_after address flags others x) (option_map (λ k. get_or before k 0) o)
     by_place x None at = refl
     by_place x (Some p) at = ap Some (byte_there high end start address x p flags others before after runs s e has some f r at)

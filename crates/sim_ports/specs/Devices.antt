@@ -8,15 +8,15 @@ use Rattle.sim_ports.specs.declared.role.Role.{Role}
 
 -- ---- what a device holds: a byte at each address that it has, and none at the others
 
-abbrev pub Held : Type 0
-Held = ℕ → Option ℕ
+abbrev pub HeldBytes : Type 0
+HeldBytes = ℕ → Option ℕ
 
 -- these are the addresses that it has
-abbrev pub HasJust : List ℕ → Held → Type 0
+abbrev pub HasJust : List ℕ → HeldBytes → Type 0
 HasJust addresses held = (address : ℕ) → IsSome (held address) ↔ Contains addresses address
 
 -- two have the same addresses
-abbrev pub HaveSame : Held → Held → Type 0
+abbrev pub HaveSame : HeldBytes → HeldBytes → Type 0
 HaveSame one other = (address : ℕ) → IsSome (one address) ↔ IsSome (other address)
 
 -- ---- what a device states
@@ -25,19 +25,19 @@ HaveSame one other = (address : ℕ) → IsSome (one address) ↔ IsSome (other 
 pub record Answer : Type 0 where
   pub denied : Bool
   pub payload : List ℕ
-  pub held : Held
+  pub held : HeldBytes
 
 -- what is held at first, in a role, at some addresses; and the answer to a request
 pub record Says : Type 0 where
-  pub start : Role → List ℕ → Held
-  pub stated : Role → Held → Request → Answer
+  pub start : Role → List ℕ → HeldBytes
+  pub stated : Role → HeldBytes → Request → Answer
 
 -- a device: what it states, whether it is prepared, in which role, and what it holds
 pub record Meaning : Type 0 where
   pub says : Says
   pub prepared : Bool
   pub role : Role
-  pub held : Held
+  pub held : HeldBytes
 
 -- the device prepared in a role at some addresses
 abbrev pub started : Meaning → Role → List ℕ → Meaning
@@ -45,12 +45,12 @@ started device role addresses =
     record { says = device.says; prepared = true; role = role; held = device.says.start role addresses }
 
 -- its answer to a request now
-abbrev pub answer_of : Meaning → Request → Answer
-answer_of device request = device.says.stated device.role device.held request
+abbrev pub device_answer : Meaning → Request → Answer
+device_answer device request = device.says.stated device.role device.held request
 
 -- the device after that answer
-abbrev pub answered : Meaning → Request → Meaning
-answered device request = record device { held = (answer_of device request).held }
+abbrev pub after_answer : Meaning → Request → Meaning
+after_answer device request = record device { held = (device_answer device request).held }
 
 -- ---- what it may be asked
 
@@ -69,7 +69,7 @@ answer_bytes request = cond (brings_data (ack_of request.op)) (bytes_of request.
 
 -- a whole request, aligned and within the limits, at most eight bytes where it is atomic, all of whose bytes the
 -- device has
-pub record MayBeAsked (held : Held) (request : Request) : Type 0 where
+pub record MayBeAsked (held : HeldBytes) (request : Request) : Type 0 where
   pub shape : IsRequest request
   pub address : request.address < 2 ^ 48
   pub source : request.source < 1024

@@ -1,32 +1,33 @@
--- Bytes at addresses as they are kept: runs of contiguous addresses in rising order, and the bytes of all runs in a row.
+-- Bytes at addresses as they are kept: runs of contiguous addresses in rising order, and the bytes of all runs in a
+-- row.
 use Rattle.std.specs.Prelude.{ℕ, ◌≡◌, ◌+◌, ◌-◌, ◌≤◌, ◌<◌, ◌&&◌, nat_le, nat_lt, Bool, false, cond, Option, IsSome, IsTrue, Some, None, List, [], ◌∷◌, ◌++◌, length, slice_index, slice_index_or, option_map}
 use Rattle.sim_ports.specs.declared.role.Role.{Role}
 use Rattle.sim_ports.specs.declared.runs.Run.{Run}
 use Rattle.tl_edge.specs.declared.message.Request.{Request}
 use Rattle.tl_edge.specs.Messages.{IsRequest, bytes_of}
-use Rattle.sim_ports.specs.Devices.{Held, is_atomic}
+use Rattle.sim_ports.specs.Devices.{HeldBytes, is_atomic}
 
 -- the run has the address
-abbrev pub has : Run → ℕ → Bool
-has run address = nat_le run.first address && nat_lt (address - run.first) run.count
+abbrev pub run_has : Run → ℕ → Bool
+run_has run address = nat_le run.first address && nat_lt (address - run.first) run.count
 
 -- where the byte of an address stands, if the run has it
 abbrev pub place_in : Run → ℕ → Option ℕ
-place_in run address = cond (has run address) (Some (run.place + (address - run.first))) None
+place_in run address = cond (run_has run address) (Some (run.place + (address - run.first))) None
 
 -- where the byte of an address stands
-abbrev pub place_of : List Run → ℕ → Option ℕ
-place_of [] address = None
-place_of (run ∷ runs) address =
-    cond (has run address) (Some (run.place + (address - run.first))) (place_of runs address)
+abbrev pub place_in_runs : List Run → ℕ → Option ℕ
+place_in_runs [] address = None
+place_in_runs (run ∷ runs) address =
+    cond (run_has run address) (Some (run.place + (address - run.first))) (place_in_runs runs address)
 
 -- the byte at each address
-abbrev pub kept : List Run → List ℕ → Held
-kept runs bytes = λ address. option_map (slice_index bytes) (place_of runs address)
+abbrev pub kept : List Run → List ℕ → HeldBytes
+kept runs bytes = λ address. option_map (slice_index bytes) (place_in_runs runs address)
 
 -- so many addresses from one on have places
 abbrev pub HasPlaces : List Run → ℕ → ℕ → Type 0
-HasPlaces runs address count = (number : ℕ) → number < count → IsSome (place_of runs (address + number))
+HasPlaces runs address count = (number : ℕ) → number < count → IsSome (place_in_runs runs (address + number))
 
 -- runs from an address and a place on, with an address between any two that neither has; they end before another
 -- address and at another place
@@ -36,7 +37,7 @@ AreSpaced low place (run ∷ runs) high end =
     (low ≤ run.first) × (run.place ≡ place) × AreSpaced (run.first + run.count + 1) (place + run.count) runs high end
 
 -- the runs of so many bytes
-pub record AreRuns (runs : List Run) (end : ℕ) : Type 0 where
+pub record AreByteRuns (runs : List Run) (end : ℕ) : Type 0 where
   pub high : ℕ
   pub spaced : AreSpaced 0 0 runs high end
 
@@ -48,12 +49,12 @@ pub record Keeping : Type 0 where
   pub bytes : List ℕ
 
 -- runs and their bytes hold what is to be held
-pub record IsLaidOut (runs : List Run) (bytes : List ℕ) (held : Held) : Type 0 where
-  pub runs_are : AreRuns runs (length bytes)
+pub record IsLaidOut (runs : List Run) (bytes : List ℕ) (held : HeldBytes) : Type 0 where
+  pub runs_are : AreByteRuns runs (length bytes)
   pub is : kept runs bytes ≡ held
 
 -- the same while addresses are added in rising order: the last run may still grow, and has no address at first
-pub record IsLaying (held : Held) (few : ℕ) (runs : List Run) (run : Run) (bytes : List ℕ) : Type 0 where
+pub record IsLaying (held : HeldBytes) (few : ℕ) (runs : List Run) (run : Run) (bytes : List ℕ) : Type 0 where
   pub high : ℕ
   pub spaced : AreSpaced 0 0 runs high run.place
   pub apart : high ≤ run.first

@@ -54,8 +54,8 @@ sent_of width (request ∷ requests) beats =
     (one_more (sent_of width requests (beats - request_beats request.op request.size width)))
 
 -- with a beat more, of a message that has so many
-abbrev pub next_of : Sent → ℕ → Sent
-next_of sent beats =
+abbrev pub one_beat_more : Sent → ℕ → Sent
+one_beat_more sent beats =
     cond (nat_eq (sent.part + 1) beats) (record { whole = sent.whole + 1; part = 0 })
     (record { whole = sent.whole; part = sent.part + 1 })
 
@@ -68,8 +68,8 @@ abbrev pub beats_due : ℕ → Request → ℕ
 beats_due width request = response_beats (ack_of request.op) request.size width
 
 -- how many beats answer the first requests, so many, as far as they have an id
-abbrev pub due : ℕ → List Request → ℕ → ℕ → ℕ
-due width requests count id =
+abbrev pub due_with_id : ℕ → List Request → ℕ → ℕ → ℕ
+due_with_id width requests count id =
     sum_by (λ request. cond (nat_eq request.source id) (beats_due width request) 0) (take count requests)
 
 -- what has been sent of a script
@@ -83,7 +83,7 @@ begun_at script history = begun_of (sent_at script history)
 -- an id is busy: of the beats that answer the requests begun with it one hasn't returned
 abbrev pub is_busy : Script → List Event → ℕ → Bool
 is_busy script history id =
-    nat_lt (returned history id) (due script.width script.requests (begun_at script history) id)
+    nat_lt (returned history id) (due_with_id script.width script.requests (begun_at script history) id)
 
 -- how many requests have returned their last beat: those that have begun, but for the one of each busy id
 abbrev pub finished_at : Script → List Event → ℕ
@@ -97,7 +97,8 @@ finished_at script history =
 abbrev pub offer_of : ℕ → Option Request → ℕ → ℕ → (ℕ → Bool) → ℕ → Option ABeat
 offer_of width None part start busy cycle = None
 offer_of width (Some request) part start busy cycle =
-    cond (nat_eq part 0 && not (nat_le start cycle && not (busy request.source))) None (Some (a_beat width request part))
+    cond (nat_eq part 0 && not (nat_le start cycle && not (busy request.source))) None
+    (Some (a_beat width request part))
 
 -- what the port offers in a cycle
 abbrev pub source_offers : Script → List Event → ℕ → Bool → Option ABeat
@@ -142,7 +143,7 @@ pub record Sends (script : Script) (history : List Event) (driver : Sending) : T
   pub sent : driver.sent ≡ sent_at script history
   pub left : (id : ℕ) → id < script.ids
       → slice_index driver.left id + returned history id
-      ≡ due script.width script.requests (begun_at script history) id
+      ≡ due_with_id script.width script.requests (begun_at script history) id
 
 -- ---- what a driver has at all times
 

@@ -34,13 +34,13 @@ pub struct Cells {
 
 impl Model for Cells {
     ghost use Rattle.std.specs.Prelude.{length};
-    ghost use Rattle.sim_ports.specs.Layout.{AreRuns, Keeping};
+    ghost use Rattle.sim_ports.specs.Layout.{AreByteRuns, Keeping};
 
     ghost Value = { Keeping };
 
     ghost view = { λ c. record { prepared = c.prepared; role = c.role; runs = c.runs; bytes = c.bytes } };
 
-    ghost invariant = { λ c. AreRuns c.runs (length c.bytes) };
+    ghost invariant = { λ c. AreByteRuns c.runs (length c.bytes) };
 }
 
 // Whether a memory in a role does an operation.
@@ -56,7 +56,7 @@ fn grants(role: Role, op: Op) -> bool
 
 // Does an atomic operation, and gives the old bytes.
 fn exchange(runs: &[Run], bytes: &mut [u8], request: &Request, payload: &mut [u8])
-    requires runs { layout.AreRuns runs.now (length bytes.old) }
+    requires runs { layout.AreByteRuns runs.now (length bytes.old) }
     requires some { 1 ≤ length payload.old }
     requires few { length payload.old ≤ 8 }
     requires operand { length request.now.payload ≡ length payload.old }
@@ -64,7 +64,8 @@ fn exchange(runs: &[Run], bytes: &mut [u8], request: &Request, payload: &mut [u8
     ensures payload { payload.new
         ≡ spec.bytes_from (layout.kept runs.now bytes.old) request.now.address (length payload.old) }
     ensures kept { layout.kept runs.now bytes.new
-        ≡ spec.written (layout.kept runs.now bytes.old) request.now.address (replicate (length payload.old) true)
+        ≡ spec.after_write (layout.kept runs.now bytes.old) request.now.address
+        (replicate (length payload.old) true)
         (new_bytes request.now.op request.now.param payload.new request.now.payload) }
 {
     read(runs, bytes, request.address, payload);
@@ -79,7 +80,7 @@ fn exchange(runs: &[Run], bytes: &mut [u8], request: &Request, payload: &mut [u8
 
 // Does a request that isn't denied.
 fn do_request(runs: &[Run], bytes: &mut [u8], request: &Request, payload: &mut [u8])
-    requires runs { layout.AreRuns runs.now (length bytes.old) }
+    requires runs { layout.AreByteRuns runs.now (length bytes.old) }
     requires request { layout.MayBeDone runs.now request.now }
     requires room { length payload.old ≡ devices.answer_bytes request.now }
     ensures payload { payload.new

@@ -27,8 +27,8 @@ pub trait Device: Drop {
         requires prepared { (meaning self.old).prepared ≡ true }
         requires request { spec.MayBeAsked (meaning self.old).held request.now }
         requires room { length payload.old ≡ spec.answer_bytes request.now }
-        ensures denied { result ≡ (spec.answer_of (meaning self.old) request.now).denied }
-        ensures payload { payload.new ≡ (spec.answer_of (meaning self.old) request.now).payload }
-        ensures meaning { meaning self.new ≡ spec.answered (meaning self.old) request.now }
+        ensures denied { result ≡ (spec.device_answer (meaning self.old) request.now).denied }
+        ensures payload { payload.new ≡ (spec.device_answer (meaning self.old) request.now).payload }
+        ensures meaning { meaning self.new ≡ spec.after_answer (meaning self.old) request.now }
         ensures addresses { spec.HaveSame (meaning self.new).held (meaning self.old).held };
 }

@@ -1,6 +1,6 @@
 ghost use Rattle.std.specs.Prelude.{◌≡◌, ◌≤◌, ◌+◌, ℕ, List, IfOk, length};
 ghost use Rattle.std.specs.List.Sorted.{IsNonDecreasing};
-ghost use Rattle.sim_ports.specs.Devices.{Held};
+ghost use Rattle.sim_ports.specs.Devices.{HeldBytes};
 ghost use Rattle.sim_ports.specs.Layout as layout;
 ghost use Rattle.sim_ports.specs.Memories as spec;
 
@@ -30,7 +30,7 @@ fn first_byte(role: Role, address: u64) -> u8
 fn run_for(runs: &mut Runs, run: Run, address: u64, place: usize) -> Result<Run, Memory>
     requires { run.first + run.count ≤ address }
     ensures next { IfOk result (λ new. new.first + new.count ≡ address) }
-    ensures laid { IfOk result (λ new. (held : Held) (few : ℕ) (bytes : List ℕ) → length bytes ≡ place
+    ensures laid { IfOk result (λ new. (held : HeldBytes) (few : ℕ) (bytes : List ℕ) → length bytes ≡ place
         → layout.IsLaying held few runs.old run bytes → layout.IsLaying held few runs.new new bytes) }
 {
     if address - run.first == run.count {

@@ -1,23 +1,23 @@
 ghost use Rattle.std.specs.Prelude.{◌≡◌, ◌≤◌, ◌+◌, ◌++◌, length, replicate, take, drop, true, cond, Some};
 ghost use Rattle.sim_ports.specs.Layout as spec;
-ghost use Rattle.sim_ports.specs.Memories.{bytes_from, written};
+ghost use Rattle.sim_ports.specs.Memories.{bytes_from, after_write};
 
-use crate::runs::{Run, place_of};
+use crate::runs::{Run, place_in_runs};
 
 // Where some bytes from an address on stand, among those of all runs.
 fn start_of(runs: &[Run], end: usize, address: u64, count: usize) -> usize
-    requires runs { spec.AreRuns runs.now end }
+    requires runs { spec.AreByteRuns runs.now end }
     requires some { 1 ≤ count }
     requires has { spec.HasPlaces runs.now address count }
-    ensures place { spec.place_of runs.now address ≡ Some result }
+    ensures place { spec.place_in_runs runs.now address ≡ Some result }
     ensures within { result + count ≤ end }
 {
-    place_of(runs, address, end).unwrap_or(0)
+    place_in_runs(runs, address, end).unwrap_or(0)
 }
 
 /// Fills a list with the bytes from an address on.
 pub(crate) fn read(runs: &[Run], bytes: &[u8], address: u64, into: &mut [u8])
-    requires runs { spec.AreRuns runs.now (length bytes.now) }
+    requires runs { spec.AreByteRuns runs.now (length bytes.now) }
     requires some { 1 ≤ length into.old }
     requires has { spec.HasPlaces runs.now address (length into.old) }
     ensures { into.new ≡ bytes_from (spec.kept runs.now bytes.now) address (length into.old) }
@@ -38,11 +38,11 @@ fn replace(bytes: &mut [u8], start: usize, others: &[u8])
 
 /// Writes bytes from an address on.
 pub(crate) fn write(runs: &[Run], bytes: &mut [u8], address: u64, others: &[u8])
-    requires runs { spec.AreRuns runs.now (length bytes.old) }
+    requires runs { spec.AreByteRuns runs.now (length bytes.old) }
     requires some { 1 ≤ length others.now }
     requires has { spec.HasPlaces runs.now address (length others.now) }
     ensures { spec.kept runs.now bytes.new
-        ≡ written (spec.kept runs.now bytes.old) address (replicate (length others.now) true) others.now }
+        ≡ after_write (spec.kept runs.now bytes.old) address (replicate (length others.now) true) others.now }
 {
     let start = start_of(runs, bytes.len(), address, others.len());
     replace(bytes, start, others);
@@ -74,12 +74,12 @@ pub(crate) fn write_flagged(
     flags: &[bool],
     others: &[u8],
 )
-    requires runs { spec.AreRuns runs.now (length bytes.old) }
+    requires runs { spec.AreByteRuns runs.now (length bytes.old) }
     requires some { 1 ≤ length others.now }
     requires flags { length flags.now ≡ length others.now }
     requires has { spec.HasPlaces runs.now address (length others.now) }
     ensures { spec.kept runs.now bytes.new
-        ≡ written (spec.kept runs.now bytes.old) address flags.now others.now }
+        ≡ after_write (spec.kept runs.now bytes.old) address flags.now others.now }
 {
     let start = start_of(runs, bytes.len(), address, others.len());
     replace_flagged(bytes, start, flags, others);

@@ -32,7 +32,7 @@ fn place_in(run: Run, address: u64) -> Option<usize>
 
 // How many of the runs begin at an address or below it.
 fn begun_before(runs: &[Run], address: u64, end: usize) -> usize
-    requires { spec.AreRuns runs.now end }
+    requires { spec.AreByteRuns runs.now end }
     ensures bound { result ≤ length runs.now }
     ensures before { spec.AllBegin runs.now address result }
     ensures behind { spec.NoneBegins runs.now address result }
@@ -51,9 +51,9 @@ fn begun_before(runs: &[Run], address: u64, end: usize) -> usize
 }
 
 /// Where the byte of an address stands, if one of the runs of so many bytes has it: one binary search.
-pub(crate) fn place_of(runs: &[Run], address: u64, end: usize) -> Option<usize>
-    requires { spec.AreRuns runs.now end }
-    ensures { result ≡ spec.place_of runs.now address }
+pub(crate) fn place_in_runs(runs: &[Run], address: u64, end: usize) -> Option<usize>
+    requires { spec.AreByteRuns runs.now end }
+    ensures { result ≡ spec.place_in_runs runs.now address }
 {
     let begun = begun_before(runs, address, end);
     if begun == 0 {

@@ -22,7 +22,7 @@ impl Sent {
     fn next(self, beats: u32) -> Sent
         requires whole { self.whole < 10000 }
         requires part { self.part < beats }
-        ensures { result ≡ spec.next_of self beats }
+        ensures { result ≡ spec.one_beat_more self beats }
     {
         if self.part + 1 == beats {
             Sent {
@@ -53,9 +53,21 @@ impl Model for SourceDriver {
 
     ghost Value = { Sending };
 
-    ghost view = { λ d. record { width = d.width; requests = d.requests; starts = d.starts; sent = d.sent; left = d.left } };
+    ghost view = { λ d. record {
+      width = d.width;
+      requests = d.requests;
+      starts = d.starts;
+      sent = d.sent;
+      left = d.left;
+    } };
 
-    ghost invariant = { λ d. IsSending (record { width = d.width; requests = d.requests; starts = d.starts; sent = d.sent; left = d.left }) };
+    ghost invariant = { λ d. IsSending (record {
+      width = d.width;
+      requests = d.requests;
+      starts = d.starts;
+      sent = d.sent;
+      left = d.left;
+    }) };
 }
 
 // No beats to come, for so many ids.
