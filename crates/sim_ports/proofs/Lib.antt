@@ -4,3 +4,4 @@ pub mod Limits
 pub mod Onward
 pub mod Placed
 pub mod Replaced
+pub mod Worked

@@ -4,3 +4,4 @@ pub mod Memories
 pub mod Layout
 pub mod Kept
 pub mod Sources
+pub mod Examples
