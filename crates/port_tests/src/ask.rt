@@ -29,8 +29,8 @@ pub fn due(has: bool, size: u32) -> usize
     if has { 1 << size } else { 0 }
 }
 
-// Whether a request has the fields and the lengths that it may have.
-fn is_shaped(request: &Request) -> bool
+/// Whether a request has the fields and the lengths that it may have.
+pub fn is_shaped(request: &Request) -> bool
     ensures { IsTrue result → IsRequest request.now }
 {
     if request.size > 8 {

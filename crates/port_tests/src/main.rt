@@ -1,19 +1,25 @@
-//! Memories, a case a line: the program prepares a memory in a role at sixteen addresses, writes eight bytes,
-//! asks one request, and prints the line with the answer and the eight bytes afterwards.
+//! Memories and a source driver, a case a line.
 //!
-//! A line has a role, an operation, a param, a size (a base-2 logarithm), an address, flags, the bytes that
-//! are written first and those of the request, each of eight bytes as one number, the first byte the lowest.
+//! A line that begins with `cycle` passes a cycle of a driver that sends four requests: its number, in
+//! hexadecimal digits, `take`, `full` or `stall`, and the id with which a beat comes back, if one does.
+//!
+//! For any other line the program prepares a memory in a role at sixteen addresses, writes eight bytes, asks
+//! one request, and prints the line with the answer and the eight bytes afterwards. The line has the role, an
+//! operation, a param, a size (a base-2 logarithm), an address, flags, the bytes that are written first and
+//! those of the request, each of eight bytes as one number, the first byte the lowest.
 #![tactic(auto)]
 
 mod ask;
+mod drive;
 mod made;
 mod words;
 
 use crate::ask::{ask, due};
+use crate::drive::{opened, pass};
 use crate::made::{Fields, number_of, request_of};
-use crate::words::{Case, case_of};
+use crate::words::{Case, case_of, cycle_of};
 use dip_lists::Memory;
-use sim_ports::{Cells, Device};
+use sim_ports::{Cells, Device, SourceDriver};
 use std::alloc::Global;
 use std::fmt::Write;
 use std::io;
@@ -36,6 +42,7 @@ fn eight(op: Op, address: u64, number: u64) -> Fields {
         op,
         param: 0,
         size: 3,
+        source: 0,
         address: address / 8 * 8,
         flags: 0,
         number,
@@ -79,15 +86,38 @@ fn answer(alloc: Global, case: &Case, text: &mut String) -> Result<(), Memory> {
     Ok(())
 }
 
-fn main(rt: HostRuntime) -> io::Result<()> {
+// Answers a line: a cycle of the driver, or a case.
+fn answer_line(
+    alloc: Global,
+    driver: &mut SourceDriver,
+    line: &str,
+    text: &mut String,
+) -> Result<(), Memory> {
+    let (word, rest) = line.split_once(' ').unwrap_or((line, ""));
+    if word == "cycle" {
+        let cycle = cycle_of(rest);
+        return pass(driver, cycle.cycle, cycle.way, cycle.back, text);
+    }
+    answer(alloc, &case_of(line), text)
+}
+
+// Answers all lines.
+fn run(rt: &HostRuntime, driver: &mut SourceDriver) -> io::Result<()> {
     for line in rt.lines(rt.alloc()) {
         let line = line?;
         let mut text = String::new(rt.alloc());
-        if answer(rt.alloc(), &case_of(line.as_str()), &mut text).is_err() {
+        if answer_line(rt.alloc(), driver, line.as_str(), &mut text).is_err() {
             println!(rt; "out of memory")?;
         } else {
             println!(rt; "{line} ->{text}")?;
         }
     }
     Ok(())
+}
+
+fn main(rt: HostRuntime) -> io::Result<()> {
+    match opened(rt.alloc()) {
+        Ok(Some(mut driver)) => run(&rt, &mut driver),
+        _ => println!(rt; "no driver"),
+    }
 }

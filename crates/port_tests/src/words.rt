@@ -41,6 +41,43 @@ fn op_of(word: &str) -> Op {
     }
 }
 
+/// The word that names an operation.
+pub fn name_of(op: Op) -> &'static str {
+    match op {
+        Op::PutFull => "put",
+        Op::PutPartial => "part",
+        Op::Arithmetic => "arithmetic",
+        Op::Logical => "logical",
+        Op::Get => "get",
+        Op::Intent => "intent",
+    }
+}
+
+/// What a line says of a cycle of the driver.
+#[derive(Clone, Copy)]
+pub struct Cycle<'a> {
+    pub cycle: u32,
+    /// `take`, `full` or `stall`.
+    pub way: &'a str,
+    /// The id with which a beat comes back.
+    pub back: Option<u32>,
+}
+
+/// The cycle of a line: its number, the way, and an id or nothing.
+pub fn cycle_of(line: &str) -> Cycle<'_> {
+    let (cycle, rest) = line.split_once(' ').unwrap_or((line, ""));
+    let (way, back) = rest.split_once(' ').unwrap_or((rest, ""));
+    Cycle {
+        cycle: (number(cycle) % 4096) as u32,
+        way,
+        back: if back.is_empty() {
+            None
+        } else {
+            Some((number(back) % 256) as u32)
+        },
+    }
+}
+
 /// What a line asks.
 #[derive(Clone, Copy)]
 pub struct Case {
@@ -66,6 +103,7 @@ pub fn case_of(line: &str) -> Case {
             op: op_of(op),
             param: (number(param) % 256) as u32,
             size: (number(size) % 256) as u32,
+            source: 0,
             address: number(address),
             flags: number(flags),
             number: number(operand),
