@@ -1,9 +1,9 @@
 #!/usr/bin/env python3
 """Says where examples/ and the copies that are tried in the gate differ.
 
-Run it at the top of the repository. The program crates/soc_tests runs on the designs in its data folder, and its
-stdout holds the maps that it must print: the same design files and maps as in examples/. Each difference is a line,
-and the status is 1 where there is one.
+Run it at the top of the repository. The program crates/soc_tests runs on the designs and netlist texts in its data folder, and
+its stdout holds the maps and lines that it must print: the same files and answers as in examples/, and of those in
+examples/refused/ the refusal that stands in their first line. Each difference is a line, and the status is 1 where there is one.
 """
 
 import re
@@ -14,18 +14,28 @@ EXAMPLES = Path("examples")
 CASES = Path("crates/soc_tests")
 
 
+def examples():
+    """Each example with its command and with what is printed, exit status and all."""
+    for design in sorted(EXAMPLES.glob("*.toml")):
+        yield design, "map", f"{design.with_suffix('.map').read_text()}status 0\n"
+    for text in sorted(EXAMPLES.glob("*.v")):
+        yield text, "read", f"{text.with_suffix('.read').read_text()}status 0\n"
+    for refused in sorted((EXAMPLES / "refused").glob("*.toml")):
+        yield refused, "map", f"{refused.read_text()[2:].partition(':')[0]}\nstatus 1\n"
+
+
 def differences():
-    """What differs: a copied design, or the answer that stands at the place of its run."""
+    """What differs: a copied file, or the answer that stands at the place of its run."""
     runs = [line for line in (CASES / "stdin").read_text().splitlines() if line.startswith("run ")]
     answers = re.findall(r"(?ms)^.*?^status \d+\n", (CASES / "stdout").read_text().partition("\n")[2])
-    for design in sorted(EXAMPLES.glob("*.toml")):
-        copy, run = CASES / "data" / design.name, f"run map {design.name}"
-        if not copy.is_file() or copy.read_bytes() != design.read_bytes():
-            yield f"{copy} isn't {design}"
+    for example, command, printed in examples():
+        copy, run = CASES / "data" / example.name, f"run {command} {example.name}"
+        if not copy.is_file() or copy.read_bytes() != example.read_bytes():
+            yield f"{copy} isn't {example}"
         if run not in runs:
-            yield f"{CASES}/stdin doesn't run {design.name}"
-        elif answers[runs.index(run)] != f"{design.with_suffix('.map').read_text()}status 0\n":
-            yield f"{CASES}/stdout hasn't {design.with_suffix('.map')} in its place"
+            yield f"{CASES}/stdin doesn't run {command} {example.name}"
+        elif answers[runs.index(run)] != printed:
+            yield f"{CASES}/stdout hasn't the answer to {example} in its place"
 
 
 found = list(differences())

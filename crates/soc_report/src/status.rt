@@ -1,7 +1,7 @@
-ghost use Rattle.std.specs.Prelude.{◌≡◌, ◌≤◌, ◌+◌, ◌++◌, length, take};
-ghost use Rattle.soc_report.specs.Lines.{line_of, code_of, refused_line};
+ghost use Rattle.std.specs.Prelude.{◌≡◌, ◌≤◌, take};
+ghost use Rattle.soc_report.specs.Lines.{line_of, code_of, refused_line, bad_text_line};
 
-use itoa::Buffer;
+use crate::line::{add, add_number};
 
 /// How a run ended.
 #[derive(Clone, Copy, Debug, PartialEq, Eq)]
@@ -18,6 +18,8 @@ pub enum Status {
     WriteFailed,
     /// Want of memory; nothing was printed.
     Memory,
+    /// A text spells no netlist; it is refused at the byte with this number, from 0.
+    BadText { place: u64 },
 }
 
 impl Status {
@@ -32,19 +34,9 @@ impl Status {
             Status::ReadFailed => 3,
             Status::WriteFailed => 4,
             Status::Memory => 6,
+            Status::BadText { .. } => 8,
         }
     }
-}
-
-// Puts a piece behind what stands there, and answers where it ends.
-fn add(into: &mut [u8; 256], at: usize, piece: &[u8]) -> usize
-    requires { at + length piece.now ≤ 256 }
-    ensures end { result ≡ at + length piece.now }
-    ensures text { take result into.new ≡ take at into.old ++ piece.now }
-{
-    let end = at + piece.len();
-    into[at..end].copy_from_slice(piece);
-    end
 }
 
 // Writes the line of a check that fails to the front of `into`, and answers where it ends.
@@ -52,12 +44,20 @@ fn refused_text(check: u16, subject: u64, into: &mut [u8; 256]) -> usize
     ensures within { result ≤ 256 }
     ensures text { take result into.new ≡ refused_line check subject }
 {
-    let mut first = Buffer::new();
-    let mut second = Buffer::new();
     let end = add(into, 0, b"refused ");
-    let end = add(into, end, first.format(check).as_bytes());
+    let end = add_number(into, end, check as u64);
     let end = add(into, end, b" ");
-    let end = add(into, end, second.format(subject).as_bytes());
+    let end = add_number(into, end, subject);
+    add(into, end, b"\n")
+}
+
+// Writes the line of a text that is refused to the front of `into`, and answers where it ends.
+fn bad_text_text(place: u64, into: &mut [u8; 256]) -> usize
+    ensures within { result ≤ 256 }
+    ensures text { take result into.new ≡ bad_text_line place }
+{
+    let end = add(into, 0, b"bad text ");
+    let end = add_number(into, end, place);
     add(into, end, b"\n")
 }
 
@@ -69,7 +69,8 @@ pub fn fault_text(status: &Status, into: &mut [u8; 256]) -> usize
 {
     match status {
         Status::Refused { check, subject } => refused_text(*check, *subject, into),
-        Status::Usage => add(into, 0, b"usage: soc map\n"),
+        Status::BadText { place } => bad_text_text(*place, into),
+        Status::Usage => add(into, 0, b"usage: soc map|read\n"),
         Status::ReadFailed => add(into, 0, b"read failed\n"),
         Status::Done | Status::WriteFailed | Status::Memory => 0,
     }

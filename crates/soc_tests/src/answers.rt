@@ -21,6 +21,23 @@ pub const NOTHING: Failing = Failing { load: 0, put: 0 };
 /// A run in which the first load fails.
 pub const FIRST_LOAD: Failing = Failing { load: 1, put: 0 };
 
+/// A command on one file.
+#[derive(Clone, Copy)]
+pub enum Command {
+    Map,
+    Read,
+}
+
+impl Command {
+    // The words of the command on the file `a`.
+    fn words(self) -> &'static str {
+        match self {
+            Command::Map => "map a",
+            Command::Read => "read a",
+        }
+    }
+}
+
 /// How a run ended: its exit status, and what it printed.
 #[derive(Drop)]
 pub struct Answer {
@@ -39,11 +56,11 @@ fn words_of(alloc: Global, line: &str) -> Result<Vec<String>, Memory> {
     Ok(words)
 }
 
-// The files of a run: `a.toml` alone.
+// The files of a run: `a` alone.
 fn files_of(alloc: Global, file: &[u8], failing: &Failing) -> Result<MemFiles, Memory> {
     let mut files = MemFiles::new(alloc);
     files.fail_at(failing.load)?;
-    files.set("a.toml", file)?;
+    files.set("a", file)?;
     Ok(files)
 }
 
@@ -54,9 +71,14 @@ fn most(failing: &Failing) -> usize
     if failing.put == 0 { 300 } else { 1 }
 }
 
-/// The answer to `map a.toml` on a file of these bytes.
-pub fn map(alloc: Global, file: &[u8], failing: &Failing) -> Result<Answer, Memory> {
-    let words = words_of(alloc, "map a.toml")?;
+/// The answer to a command on a file of these bytes.
+pub fn answer_to(
+    alloc: Global,
+    command: Command,
+    file: &[u8],
+    failing: &Failing,
+) -> Result<Answer, Memory> {
+    let words = words_of(alloc, command.words())?;
     let mut files = files_of(alloc, file, failing)?;
     let mut out = MemOut::new(alloc, most(failing));
     out.fail_at(failing.put)?;
@@ -67,9 +89,9 @@ pub fn map(alloc: Global, file: &[u8], failing: &Failing) -> Result<Answer, Memo
     })
 }
 
-/// The answer to `map a.toml` on a file of these bytes, by rules that are handed in.
+/// The answer to `map` on a file of these bytes, by rules that are handed in.
 pub fn map_by(alloc: Global, file: &[u8], rules: &Rules) -> Result<Answer, Memory> {
-    let words = words_of(alloc, "map a.toml")?;
+    let words = words_of(alloc, Command::Map.words())?;
     let mut files = files_of(alloc, file, &NOTHING)?;
     let mut out = MemOut::new(alloc, 300);
     let status = soc(alloc, words.as_slice(), &mut files, &mut out, rules);

@@ -34,7 +34,7 @@ fn add_rule(
     })
 }
 
-// The answer to `map a.toml` by the standard rules and this one behind them.
+// The answer to `map` by the standard rules and this one behind them.
 fn answer_by(
     alloc: Global,
     file: &[u8],

@@ -1,14 +1,16 @@
 //! Runs cases of `soc` by the standard rules, and prints how each ends.
 //!
-//! A line of the input is a title, which is printed (`# ..`), a line of the design file `a.toml` (`|..`),
+//! A line of the input is a title, which is printed (`# ..`), a line of the file that is being made (`|..`),
 //! such a line so many times (`*N|..`, with its number in the place of `#`, its hexadecimal digits in that
-//! of `$`, and the next number in that of `@`), or a command: `new` begins a design file, `keep` keeps it
-//! for changes, `pad N` fills it with line ends up to N bytes, `map` runs `map a.toml` on it, `size` prints
-//! the length of that answer alone, `change OLD|NEW` runs it with a text of the kept one changed (`^` is a
-//! line end), `cuts` on each front of it, `puts` where each put fails in turn, `loads` where the first load
-//! fails, `given TEMPLATE DOWN UP` by a rule of the kind `given` besides, `narrow` by one rule alone, of
-//! the kind `narrow`, and `run ..` runs these words on the files that lie where this program runs. `tree`
-//! prints what the design file states and the map doesn't show, and `plan` the plan of its design.
+//! of `$`, and the next number in that of `@`), or a command: `new` begins a design file, on which `map` is
+//! run, and `text` a netlist text, on which `read` is; `keep` keeps the file for changes, `pad N` fills it
+//! with line ends up to N bytes, `answer` prints the answer on it, `front N` that on its first N bytes,
+//! `size` the length of the answer alone, `change OLD|NEW` the answer on the kept file with a text of it
+//! changed (`^` is a line end), `cuts` those on each front of it, `puts` where each put fails in turn,
+//! `loads` where the first load fails, `given TEMPLATE DOWN UP` by a rule of the kind `given` besides,
+//! `narrow` by one rule alone, of the kind `narrow`, and `run ..` runs these words on the files that lie
+//! where this program runs. `tree` prints what a design file states and the map doesn't show, and `plan` the
+//! plan of its design.
 #![tactic(auto)]
 
 mod answers;

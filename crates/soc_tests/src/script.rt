@@ -1,5 +1,6 @@
 use crate::answers::{
-    FIRST_LOAD, Failing, NOTHING, map, print_answer, print_ended, print_size, run_words,
+    Answer, Command, FIRST_LOAD, Failing, NOTHING, answer_to, print_answer, print_ended,
+    print_size, run_words,
 };
 use crate::lies::{map_by_given, map_by_narrow};
 use crate::plan::show_plan;
@@ -9,10 +10,11 @@ use std::alloc::Global;
 use std::fmt::Write;
 use std::io;
 
-/// The design file that is being made, and the one that is kept for changes.
+/// The file that is being made, the command that is run on it, and the file that is kept for changes.
 #[derive(Drop)]
 pub struct Script {
     alloc: Global,
+    on_file: Command,
     file: String,
     kept: String,
 }
@@ -68,10 +70,10 @@ fn changed(alloc: Global, text: &str, old: &str, new: &str) -> Result<String, Me
 }
 
 // Prints the answer on each front of a file, with its length, where it is another than on the front before.
-fn show_cuts(rt: &HostRuntime, file: &[u8]) -> io::Result<()> {
+fn show_cuts(rt: &HostRuntime, command: Command, file: &[u8]) -> io::Result<()> {
     let mut last = Items::new(rt.alloc());
     for length in 0..=file.len() {
-        let Ok(answer) = map(rt.alloc(), &file[..length], &NOTHING) else {
+        let Ok(answer) = answer_to(rt.alloc(), command, &file[..length], &NOTHING) else {
             return println!(rt; "no memory");
         };
         if answer.printed.as_slice() != last.as_slice() {
@@ -84,13 +86,18 @@ fn show_cuts(rt: &HostRuntime, file: &[u8]) -> io::Result<()> {
 }
 
 // The first put whose failing isn't answered so: exit status 4, and what was due before it is printed.
-fn wrong_put(alloc: Global, file: &[u8], due: &[u8]) -> Result<Option<usize>, Memory> {
+fn wrong_put(
+    alloc: Global,
+    command: Command,
+    file: &[u8],
+    due: &[u8],
+) -> Result<Option<usize>, Memory> {
     for count in 0..due.len() {
         let failing = Failing {
             load: 0,
             put: count as u64 + 1,
         };
-        let answer = map(alloc, file, &failing)?;
+        let answer = answer_to(alloc, command, file, &failing)?;
         if answer.code != 4 || answer.printed.as_slice() != &due[..count] {
             return Ok(Some(count));
         }
@@ -99,12 +106,12 @@ fn wrong_put(alloc: Global, file: &[u8], due: &[u8]) -> Result<Option<usize>, Me
 }
 
 // Prints how the run on a file ends where each put of one byte fails in turn.
-fn show_puts(rt: &HostRuntime, file: &[u8]) -> io::Result<()> {
-    let Ok(answer) = map(rt.alloc(), file, &NOTHING) else {
+fn show_puts(rt: &HostRuntime, command: Command, file: &[u8]) -> io::Result<()> {
+    let Ok(answer) = answer_to(rt.alloc(), command, file, &NOTHING) else {
         return println!(rt; "no memory");
     };
     let due = answer.printed.as_slice();
-    match wrong_put(rt.alloc(), file, due) {
+    match wrong_put(rt.alloc(), command, file, due) {
         Ok(None) => println!(rt; "{} puts fail as they should", due.len()),
         Ok(Some(count)) => println!(rt; "wrong after {count}"),
         Err(Memory) => println!(rt; "no memory"),
@@ -112,16 +119,23 @@ fn show_puts(rt: &HostRuntime, file: &[u8]) -> io::Result<()> {
 }
 
 impl Script {
-    /// No design file.
+    /// An empty design file.
     pub fn new(alloc: Global) -> Script {
         Script {
             alloc,
+            on_file: Command::Map,
             file: String::new(alloc),
             kept: String::new(alloc),
         }
     }
 
-    // Adds a line to the design file.
+    // Begins a file on which this command is run.
+    fn begin(&mut self, command: Command) {
+        self.on_file = command;
+        self.file.clear();
+    }
+
+    // Adds a line to the file.
     fn add(&mut self, line: &str) -> Result<(), Memory> {
         self.file.push_str(line)?;
         self.file.push('\n')?;
@@ -136,7 +150,7 @@ impl Script {
         Ok(())
     }
 
-    // Fills the design file with line ends up to a size.
+    // Fills the file with line ends up to a size.
     fn pad(&mut self, size: &str) -> Result<(), Memory> {
         for _ in self.file.len()..size.parse::<usize>().unwrap_or(0) {
             self.file.push('\n')?;
@@ -144,22 +158,32 @@ impl Script {
         Ok(())
     }
 
-    // Keeps the design file for changes.
+    // Keeps the file for changes.
     fn keep(&mut self) -> Result<(), Memory> {
         self.kept = String::from_str(self.alloc, self.file.as_str())?;
         Ok(())
     }
 
-    // Makes the kept design file with the change `OLD|NEW`.
+    // Makes the kept file with the change `OLD|NEW`.
     fn change(&mut self, argument: &str) -> Result<(), Memory> {
         let (old, new) = argument.split_once('|').unwrap_or((argument, ""));
         self.file = changed(self.alloc, self.kept.as_str(), old, new)?;
         Ok(())
     }
 
-    // Prints the answer on the design file where these calls fail.
-    fn show(&self, rt: &HostRuntime, failing: &Failing) -> io::Result<()> {
-        print_ended(rt, map(self.alloc, self.file.as_bytes(), failing))
+    // The answer on the file where these calls fail.
+    fn answer(&self, failing: &Failing) -> Result<Answer, Memory> {
+        answer_to(self.alloc, self.on_file, self.file.as_bytes(), failing)
+    }
+
+    // Prints the answer on the first bytes of the file.
+    fn show_front(&self, rt: &HostRuntime, length: &str) -> io::Result<()> {
+        let file = self.file.as_bytes();
+        let length = length.parse::<usize>().unwrap_or(0).min(file.len());
+        print_ended(
+            rt,
+            answer_to(self.alloc, self.on_file, &file[..length], &NOTHING),
+        )
     }
 
     // Prints the answer on the design file by a rule that is handed in.
@@ -167,7 +191,7 @@ impl Script {
         print_ended(rt, map_by_given(self.alloc, self.file.as_bytes(), argument))
     }
 
-    // Changes the design file as a line of the input says; answers what is then to be run, and on what.
+    // Changes the file as a line of the input says; answers what is then to be run, and on what.
     fn edit<'a>(&mut self, line: &'a str) -> Result<(&'a str, &'a str), Memory> {
         if let Some(line) = line.strip_prefix('|') {
             self.add(line)?;
@@ -181,19 +205,20 @@ impl Script {
         self.command(command, argument)
     }
 
-    // Does a command that changes the design file; answers what is then to be run, and on what.
+    // Does a command that changes the file; answers what is then to be run, and on what.
     fn command<'a>(
         &mut self,
         command: &'a str,
         argument: &'a str,
     ) -> Result<(&'a str, &'a str), Memory> {
         match command {
-            "new" => self.file.clear(),
+            "new" => self.begin(Command::Map),
+            "text" => self.begin(Command::Read),
             "keep" => self.keep()?,
             "pad" => self.pad(argument)?,
             "change" => {
                 self.change(argument)?;
-                return Ok(("map", ""));
+                return Ok(("answer", ""));
             }
             _ => return Ok((command, argument)),
         }
@@ -205,13 +230,14 @@ impl Script {
         match command {
             "" => Ok(()),
             "#" => println!(rt; "# {argument}"),
-            "map" => self.show(rt, &NOTHING),
-            "loads" => self.show(rt, &FIRST_LOAD),
-            "cuts" => show_cuts(rt, self.file.as_bytes()),
-            "puts" => show_puts(rt, self.file.as_bytes()),
+            "answer" => print_ended(rt, self.answer(&NOTHING)),
+            "loads" => print_ended(rt, self.answer(&FIRST_LOAD)),
+            "front" => self.show_front(rt, argument),
+            "cuts" => show_cuts(rt, self.on_file, self.file.as_bytes()),
+            "puts" => show_puts(rt, self.on_file, self.file.as_bytes()),
             "given" => self.show_given(rt, argument),
             "narrow" => print_ended(rt, map_by_narrow(self.alloc, self.file.as_bytes())),
-            "size" => print_size(rt, map(self.alloc, self.file.as_bytes(), &NOTHING)),
+            "size" => print_size(rt, self.answer(&NOTHING)),
             "tree" => show_tree(rt, self.file.as_bytes()),
             "plan" => show_plan(rt, self.file.as_bytes()),
             "run" => run_words(rt, argument),

@@ -1,15 +1,23 @@
--- A run on the bytes of a design, as the answer of the whole.
-use Rattle.std.proofs.Common.{ℕ, ◌≡◌, ◌⊎◌, inl, inr, List, Option, Some, None, refl, sym, subst, ◌∙◌, ap, take, drop, length, []}
+-- The answers of the commands as those of a run, whatever its words.
+use Rattle.std.proofs.Common.{ℕ, ◌≡◌, ◌⊎◌, inl, inr, List, [], ◌∷◌, Bool, true, false, Option, Some, None, Result, Ok, Err, refl, sym, subst, ◌∙◌, ap, take, drop, length}
+use Rattle.std.specs.Prelude.{◌&&◌, cond, codes}
+use Rattle.std.specs.Str.{bytes_eq}
+use Rattle.std.proofs.lemmas.Slice.Eq.{bytes_eq-Decides}
 use Rattle.dip_lists.specs.First.{Failure, failure_of}
 use Rattle.dip_io.specs.Outside.{Told, AreFirst, LoadsRose, Writes}
+use Rattle.dip_rule.specs.Stated.{StatedRule}
+use Rattle.net_cells.specs.declared.netlist.Netlist.{Netlist}
+use Rattle.ver_text.proofs.Spells.{spelled_read}
 use Rattle.soc_report.specs.Lines.{line_of}
 use Rattle.soc_report.specs.declared.status.Status.{Status}
-use Rattle.soc_report.specs.declared.status.Status.TheVariants.{Done, Refused, Usage, ReadFailed, WriteFailed, Memory}
-use Rattle.soc_top.specs.Words.{design_named}
-use Rattle.soc_top.specs.Designs.{first_failure, answer_of, due_text, map_of, IsMapOf}
-use Rattle.soc_top.specs.Printing.{Printed, RunsOn}
-use Rattle.soc_top.specs.Answers.{World, IsLoaded, design, read_failed, Answered, Completed, most_loaded}
-use Rattle.dip_rule.specs.Stated.{StatedRule}
+use Rattle.soc_report.specs.declared.status.Status.TheVariants.{Done, Refused, Usage, ReadFailed, WriteFailed, Memory, BadText}
+use Rattle.soc_top.specs.Words.{is_file_name, file_of, design_named, text_named, HaveNoForm}
+use Rattle.soc_top.specs.Designs.{first_failure, answer_of, called_for}
+use Rattle.soc_top.specs.Texts.{most_text, most_text_loaded, said_by, answer_to, line_said, IsTextOf, IsRefusedAt, too_long, no_netlist}
+use Rattle.soc_top.specs.Printing.{Printed}
+use Rattle.soc_top.specs.Worlds.{World, IsLoaded}
+use Rattle.soc_top.specs.Answers.{most_loaded, MapAnswered, ReadAnswered, UsageAnswered, Answered, Completed, Gives}
+use Rattle.soc_top.proofs.ReadRuns.{within_said, beyond_said}
 
 -- what was appended to nothing
 pub loaded : (max : ℕ) (told : Told) (before after slice : List ℕ) → before ≡ [] → slice ≡ after → AreFirst max told (drop (length before) after) → AreFirst max told slice
@@ -20,143 +28,129 @@ pub answered_by : {a b : List StatedRule} {words : List (List ℕ)} {before afte
     → Answered a words before after result → Answered b words before after result
 answered_by {a} {b} {words} {before} {after} {result} same h = subst (λ rules. Answered rules words before after result) same h
 
-module _ (rules : List StatedRule) where
-  pub on_memory : (words : List (List ℕ)) (before after : World) (name : List ℕ) → design_named words ≡ Some name → after.out.written ≡ before.out.written → Answered rules words before after Memory
-  on_memory words before after name named kept = record {
-    usage = λ e. (cc);
-    read_failed = λ e. (cc);
-    write_failed = λ e. (cc);
-    refused = λ check subject e. (cc);
-    done = λ e. (cc);
-    memory = λ e. (name, named);
-    nothing = λ e. kept;
-    line = λ a b k. absurd (k refl);
-    part = λ e. (cc);
+-- ---- the form of the words
+
+same_some : (a b : List ℕ) → Some a ≡ Some b → a ≡ b
+same_some a b e = cc
+
+one_name : (found : Option (List ℕ)) (a b : List ℕ) → found ≡ Some a → found ≡ Some b → a ≡ b
+one_name found a b e k = cc
+
+command_by : (word command : List ℕ) (is_command is_name : Bool) (name a : List ℕ) → bytes_eq word command ≡ is_command
+    → cond (is_command && is_name) (Some name) None ≡ Some a → bytes_eq word command ≡ true
+command_by word command true is_name name a h e = h
+command_by word command false is_name name a h e = cc
+
+-- words with a file have one command
+one_command : (c d : List ℕ) (words : List (List ℕ)) (a b : List ℕ) → file_of c words ≡ Some a → file_of d words ≡ Some b → c ≡ d
+one_command c d [] a b e k = cc
+one_command c d (word ∷ []) a b e k = cc
+one_command c d (word ∷ name ∷ []) a b e k =
+    let first : word ≡ c = (bytes_eq-Decides word c).0 (command_by word c (bytes_eq word c) (is_file_name name) name a refl e) in
+    let second : word ≡ d = (bytes_eq-Decides word d).0 (command_by word d (bytes_eq word d) (is_file_name name) name b refl k) in
+    sym first ∙ second
+one_command c d (word ∷ name ∷ more ∷ words) a b e k = cc
+
+two_commands : codes "map" ≡ codes "read" → ⊥
+two_commands e = cc
+
+not_both : (words : List (List ℕ)) (a b : List ℕ) → design_named words ≡ Some a → text_named words ≡ Some b → ⊥
+not_both words a b e k = two_commands (one_command (codes "map") (codes "read") words a b e k)
+
+nothing_found : (found : Option (List ℕ)) (a : List ℕ) → found ≡ Some a → found ≡ None → ⊥
+nothing_found found a e k = cc
+
+module _ (rules : List StatedRule) (words : List (List ℕ)) (before after : World) (result : Status) where
+  pub of_map : (name : List ℕ) → design_named words ≡ Some name → MapAnswered rules name before after result → Answered rules words before after result
+  of_map name e h = record {
+    map = λ other k. subst (λ n. MapAnswered rules n before after result) (one_name (design_named words) name other e k) h;
+    read = λ other k. absurd (not_both words name other e k);
+    usage = λ none. absurd (nothing_found (design_named words) name e none.design);
   }
 
-  same_failure : (failure : Failure) (check subject : ℕ) → Refused failure.number failure.subject ≡ Refused check subject → failure ≡ failure_of check subject
-  same_failure failure check subject e = let n : failure.number ≡ check = (cc) in let s : failure.subject ≡ subject = (cc) in rw (n, s) refl
-
-  on_printed : (words : List (List ℕ)) (before after : World) (result : Status) (name bytes : List ℕ) (found : Option Failure)
-      → found ≡ first_failure rules bytes → IsLoaded words before.files name bytes
-      → Printed (due_text rules bytes found) (answer_of found) result before.out after.out
-      → (result ≡ Done → IsMapOf rules bytes (map_of rules bytes))
-      → (result ≡ answer_of found) ⊎ (result ≡ WriteFailed) → Answered rules words before after result
-  on_printed words before after result name bytes None f l p m (inl r) = record {
-    usage = λ h. (cc);
-    read_failed = λ h. (cc);
-    write_failed = λ h. (cc);
-    refused = λ check subject h. (cc);
-    done = λ h. (name, bytes, l, sym f, m h, p.whole (λ w. (cc)));
-    memory = λ h. (cc);
-    nothing = λ h. (cc);
-    line = λ a b k. absurd (a r);
-    part = λ h. (cc);
+  pub of_read : (name : List ℕ) → text_named words ≡ Some name → ReadAnswered name before after result → Answered rules words before after result
+  of_read name e h = record {
+    map = λ other k. absurd (not_both words other name k e);
+    read = λ other k. subst (λ n. ReadAnswered n before after result) (one_name (text_named words) name other e k) h;
+    usage = λ none. absurd (nothing_found (text_named words) name e none.text);
   }
-  on_printed words before after result name bytes (Some failure) f l p m (inl r) = record {
-    usage = λ h. (cc);
-    read_failed = λ h. (cc);
-    write_failed = λ h. (cc);
-    refused = λ check subject h. (name, bytes, l, sym f ∙ ap Some (same_failure failure check subject (sym r ∙ h)));
-    done = λ h. (cc);
-    memory = λ h. (cc);
-    nothing = λ h. (cc);
-    line = λ a b k. rw r (p.whole b);
-    part = λ h. (cc);
+
+  usage_printed : Printed (line_of Usage) Usage result before.out after.out → (result ≡ Usage) ⊎ (result ≡ WriteFailed) → UsageAnswered before after result
+  unfolding UsageAnswered
+  usage_printed p (inl r) = rw r (p.whole (λ h. (cc)))
+  usage_printed p (inr r) = let part = p.part r in rw r (part.0, (line_of Usage, refl, part.1))
+
+  pub of_usage : design_named words ≡ None → text_named words ≡ None → Printed (line_of Usage) Usage result before.out after.out
+      → Answered rules words before after result
+  of_usage d t p = record {
+    map = λ name k. absurd (nothing_found (design_named words) name k d);
+    read = λ name k. absurd (nothing_found (text_named words) name k t);
+    usage = λ none. usage_printed p p.either;
   }
-  on_printed words before after result name bytes found f l p m (inr r) =
-      let part = p.part r in
-      record {
-        usage = λ h. (cc);
-        read_failed = λ h. (cc);
-        write_failed = λ h. part.0;
-        refused = λ check subject h. (cc);
-        done = λ h. (cc);
-        memory = λ h. (cc);
-        nothing = λ h. (cc);
-        line = λ a b k. absurd (b r);
-        part = λ h. (due_text rules bytes found, design name bytes l (ap (due_text rules bytes) f), part.1);
-      }
 
-  pub on_bytes : (words : List (List ℕ)) (before after : World) (result : Status) (name bytes : List ℕ)
-      → IsLoaded words before.files name bytes → RunsOn rules bytes result before.out after.out
-      → (result ≡ Done → IsMapOf rules bytes (map_of rules bytes)) → Answered rules words before after result
-  on_bytes words before after result name bytes l (inl m) mapped = rw m.0 (on_memory words before after name l.named m.1)
-  on_bytes words before after result name bytes l (inr p) mapped = on_printed words before after result name bytes (first_failure rules bytes) refl l p mapped p.either
+-- ---- what comes where a file is told and was loaded
 
-  -- a load that failed
-  on_line : (words : List (List ℕ)) (before after : World) (result : Status) (name : List ℕ) → design_named words ≡ Some name → LoadsRose name before.files after.files
-      → Printed (line_of ReadFailed) ReadFailed result before.out after.out → (result ≡ ReadFailed) ⊎ (result ≡ WriteFailed) → Answered rules words before after result
-  on_line words before after result name named rose p (inl r) = record {
-    usage = λ h. (cc);
-    read_failed = λ h. (name, named, rose);
-    write_failed = λ h. (cc);
-    refused = λ check subject h. (cc);
-    done = λ h. (cc);
-    memory = λ h. (cc);
-    nothing = λ h. (cc);
-    line = λ a b k. rw r (p.whole b);
-    part = λ h. (cc);
-  }
-  on_line words before after result name named rose p (inr r) =
-      let part = p.part r in
-      record {
-        usage = λ h. (cc);
-        read_failed = λ h. (cc);
-        write_failed = λ h. part.0;
-        refused = λ check subject h. (cc);
-        done = λ h. (cc);
-        memory = λ h. (cc);
-        nothing = λ h. (cc);
-        line = λ a b k. absurd (b r);
-        part = λ h. (line_of ReadFailed, read_failed name named rose refl, part.1);
-      }
+-- what was loaded of a file that is told
+whole : (most : ℕ) (name : List ℕ) (before : World) (bytes all : List ℕ) → before.files.content name ≡ Some (Some all) → IsLoaded most name before bytes
+    → bytes ≡ take most all
+whole most name before bytes all t l = let first = rw t at l in first.1
 
-  pub on_read_failed : (words : List (List ℕ)) (before after : World) (result : Status) (name : List ℕ) → design_named words ≡ Some name → LoadsRose name before.files after.files
-      → Printed (line_of ReadFailed) ReadFailed result before.out after.out → Answered rules words before after result
-  on_read_failed words before after result name named rose p = on_line words before after result name named rose p p.either
+refused_said : (bytes : List ℕ) (place : ℕ) → IsRefusedAt bytes place → said_by bytes ≡ Err place
+refused_said bytes place (too_long w e) = rw e (beyond_said bytes w)
+refused_said bytes place (no_netlist w none e) = within_said bytes (Err place) w e
 
-  some_same : (a b : List ℕ) → Some a ≡ Some b → a ≡ b
-  some_same a b e = (cc)
+module _ (rules : List StatedRule) (name : List ℕ) (before after : World) where
+  map_gives : (result : Status) → MapAnswered rules name before after result → (all : List ℕ) → before.files.content name ≡ Some (Some all)
+      → ¬ (LoadsRose name before.files after.files)
+      → Gives (answer_of (first_failure rules (take most_loaded all))) (called_for rules (take most_loaded all)) before after result
+  unfolding MapAnswered
+  map_gives Done (bytes, l, passes, is_map, written) all t no_load =
+      let same : bytes ≡ take most_loaded all = whole most_loaded name before bytes all t l in
+      let none : first_failure rules (take most_loaded all) ≡ None = ap (first_failure rules) (sym same) ∙ passes in
+      inr (inr (rw none refl, rw none (rw same at written)))
+  map_gives (Refused check subject) (bytes, l, fails, written) all t no_load =
+      let same : bytes ≡ take most_loaded all = whole most_loaded name before bytes all t l in
+      let some : first_failure rules (take most_loaded all) ≡ Some (failure_of check subject) = ap (first_failure rules) (sym same) ∙ fails in
+      inr (inr (rw some refl, rw some written))
+  map_gives ReadFailed (rose, written) all t no_load = absurd (no_load rose)
+  map_gives WriteFailed h all t no_load = inr (inl refl)
+  map_gives Memory h all t no_load = inl refl
+  map_gives Usage h all t no_load = absurd h
+  map_gives (BadText place) h all t no_load = absurd h
 
-  -- what was loaded of a file that is told
-  whole : (words : List (List ℕ)) (before : World) (name other bytes all : List ℕ) → design_named words ≡ Some name → before.files.content name ≡ Some (Some all)
-      → IsLoaded words before.files other bytes → bytes ≡ take most_loaded all
-  whole words before name other bytes all e t l =
-      let same : name ≡ other = some_same name other (sym e ∙ l.named) in
-      let at_other : before.files.content other ≡ Some (Some all) = ap before.files.content (sym same) ∙ t in
-      let first = rw at_other at l.first in
-      first.1
+  read_gives : (result : Status) → ReadAnswered name before after result → (all : List ℕ) → before.files.content name ≡ Some (Some all)
+      → ¬ (LoadsRose name before.files after.files)
+      → Gives (answer_to (said_by (take most_text_loaded all))) (line_said (said_by (take most_text_loaded all))) before after result
+  unfolding ReadAnswered
+  read_gives Done (bytes, (netlist, l, text, written)) all t no_load =
+      let same : bytes ≡ take most_text_loaded all = whole most_text_loaded name before bytes all t l in
+      let says : said_by (take most_text_loaded all) ≡ Ok netlist =
+      ap said_by (sym same) ∙ within_said bytes (Ok netlist) text.within (spelled_read bytes netlist text.spells) in
+      inr (inr (rw says refl, rw says written))
+  read_gives (BadText place) (bytes, l, refused, written) all t no_load =
+      let same : bytes ≡ take most_text_loaded all = whole most_text_loaded name before bytes all t l in
+      let says : said_by (take most_text_loaded all) ≡ Err place = ap said_by (sym same) ∙ refused_said bytes place refused in
+      inr (inr (rw says refl, rw says written))
+  read_gives ReadFailed (rose, written) all t no_load = absurd (no_load rose)
+  read_gives WriteFailed h all t no_load = inr (inl refl)
+  read_gives Memory h all t no_load = inl refl
+  read_gives Usage h all t no_load = absurd h
+  read_gives (Refused check subject) h all t no_load = absurd h
 
-  of_words : (words : List (List ℕ)) (before after : World) (result : Status) → Answered rules words before after result → design_named words ≡ None → (result ≡ WriteFailed) ⊎ (result ≡ Usage)
-  of_words words before after Done a n = let d = a.done refl in let named : design_named words ≡ Some d.0 = d.2.named in (cc)
-  of_words words before after (Refused check subject) a n = let d = a.refused check subject refl in let named : design_named words ≡ Some d.0 = d.2.named in (cc)
-  of_words words before after Usage a n = inr refl
-  of_words words before after ReadFailed a n = let r = a.read_failed refl in let named : design_named words ≡ Some r.0 = r.1 in (cc)
-  of_words words before after WriteFailed a n = inl refl
-  of_words words before after Memory a n = let m = a.memory refl in let named : design_named words ≡ Some m.0 = m.1 in (cc)
+usage_gives : (before after : World) (result : Status) → UsageAnswered before after result → (result ≡ WriteFailed) ⊎ (result ≡ Usage)
+unfolding UsageAnswered
+usage_gives before after Usage h = inr refl
+usage_gives before after WriteFailed h = inl refl
+usage_gives before after Done h = absurd h
+usage_gives before after (Refused check subject) h = absurd h
+usage_gives before after ReadFailed h = absurd h
+usage_gives before after Memory h = absurd h
+usage_gives before after (BadText place) h = absurd h
 
-  of_design : (words : List (List ℕ)) (before after : World) (result : Status) → Answered rules words before after result
-      → (name all : List ℕ) → design_named words ≡ Some name → before.files.content name ≡ Some (Some all) → ¬ (LoadsRose name before.files after.files)
-      → (result ≡ Memory) ⊎ (result ≡ WriteFailed)
-      ⊎ ((result ≡ answer_of (first_failure rules (take most_loaded all))) × Writes (due_text rules (take most_loaded all) (first_failure rules (take most_loaded all))) before.out after.out)
-  of_design words before after Done a name all e t no_load =
-      let d = a.done refl in
-      let same : d.1 ≡ take most_loaded all = whole words before name d.0 d.1 all e t d.2 in
-      let passes : first_failure rules (take most_loaded all) ≡ None = ap (first_failure rules) (sym same) ∙ d.3 in
-      inr (inr (rw passes refl, rw passes (rw same at d.5)))
-  of_design words before after (Refused check subject) a name all e t no_load =
-      let d = a.refused check subject refl in
-      let same : d.1 ≡ take most_loaded all = whole words before name d.0 d.1 all e t d.2 in
-      let fails : first_failure rules (take most_loaded all) ≡ Some (failure_of check subject) = ap (first_failure rules) (sym same) ∙ d.3 in
-      inr (inr (rw fails refl, rw fails (a.line (λ h. (cc)) (λ h. (cc)) (λ h. (cc)))))
-  of_design words before after Usage a name all e t no_load = let u = a.usage refl in (cc)
-  of_design words before after ReadFailed a name all e t no_load =
-      let r = a.read_failed refl in
-      let same : name ≡ r.0 = some_same name r.0 (sym e ∙ r.1) in
-      absurd (no_load (rw same r.2))
-  of_design words before after WriteFailed a name all e t no_load = inr (inl refl)
-  of_design words before after Memory a name all e t no_load = inl refl
-
-  pub completed : (words : List (List ℕ)) (before after : World) (result : Status) → Answered rules words before after result → Completed rules words before after result
-  completed words before after result a = record { of_words = of_words words before after result a; of_design = of_design words before after result a }
+pub completed : (rules : List StatedRule) (words : List (List ℕ)) (before after : World) (result : Status) → Answered rules words before after result
+    → Completed rules words before after result
+completed rules words before after result a = record {
+  of_words = λ none. usage_gives before after result (a.usage none);
+  of_design = λ name all e. map_gives rules name before after result (a.map name e) all;
+  of_text = λ name all e. read_gives rules name before after result (a.read name e) all;
+}

@@ -48,6 +48,10 @@ abbrev pub due_text : List StatedRule → List ℕ → Option Failure → List �
 due_text rules bytes None = map_of rules bytes
 due_text rules bytes (Some failure) = line_of (answer_of (Some failure))
 
+-- what the bytes of a design file call for: its map, or the line of the first check that it fails
+abbrev pub called_for : List StatedRule → List ℕ → List ℕ
+called_for rules bytes = due_text rules bytes (first_failure rules bytes)
+
 -- the plan of an accepted design is sound, and stands to the design as it should
 unfoldable pub HasSoundPlan : Design → Accepted → Type 0
 HasSoundPlan design accepted =

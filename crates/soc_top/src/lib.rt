@@ -2,8 +2,12 @@
 #![tactic(auto)]
 
 mod laws;
+mod map;
+mod printing;
+mod read;
 mod standard;
 mod top;
+mod words;
 
 pub use laws::first_of_all_law;
 pub use standard::soc_by_standard_rules;

@@ -2,7 +2,8 @@ ghost use Rattle.std.specs.Prelude.{◌≡◌, IfErr, IfOk};
 ghost use Rattle.dip_io.specs.Outside.{SameContent};
 ghost use Rattle.tl_rules.specs.Standard.{standard};
 ghost use Rattle.soc_top.specs.Words.{words_of};
-ghost use Rattle.soc_top.specs.Answers.{Answered, Completed, world};
+ghost use Rattle.soc_top.specs.Worlds.{world};
+ghost use Rattle.soc_top.specs.Answers.{Answered, Completed};
 
 use crate::top::soc;
 use dip_io::{Files, Out};

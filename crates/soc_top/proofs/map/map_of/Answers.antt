@@ -1,6 +1,6 @@
 use Rattle.soc_top.proofs.Mapping.{file_fault, passes_all, maps_all, faults_all, maps_only}
 use Rattle.std.proofs.lemmas.Result.{err_from_is_err_and}
-use Rattle.soc_top.proofs.top.map_of.Goals as goal
+use Rattle.soc_top.proofs.map.map_of.Goals as goal
 
 pub returns-in_err-design-clause-err : goal.returns-in_err-design-clause-err
 returns-in_err-design-clause-err g c =

@@ -6,7 +6,7 @@ use Rattle.dip_graph.specs.declared.design.Design.{Design}
 use Rattle.dip_plan.specs.declared.accepted.Accepted.{Accepted}
 use Rattle.dip_plan.specs.Standing.{StandsTo}
 use Rattle.soc_top.specs.Designs.{HasSoundPlan}
-use Rattle.soc_top.proofs.top.map_of_design.Goals as goal
+use Rattle.soc_top.proofs.map.map_of_design.Goals as goal
 
 planned : (design : Design) (accepted : Accepted) → IsSound accepted.plan → StandsTo design accepted.edges accepted.solution accepted.plan → HasSoundPlan design accepted
 unfolding HasSoundPlan
