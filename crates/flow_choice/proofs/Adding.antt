@@ -6,7 +6,7 @@ use Rattle.std.specs.Option.{option_or}
 use Rattle.tl_params.specs.declared.ops.Policy.TheVariants.{Lowest, Round}
 use Rattle.flow_core.specs.declared.moves.Move.{Move}
 use Rattle.flow_core.specs.Network.{State}
-use Rattle.flow_core.specs.Turns.{leaf_state, turn_down, turn_up, next_id}
+use Rattle.flow_core.specs.Turns.{leaf_state, output_turn, input_turn, next_id}
 use Rattle.flow_choice.specs.declared.cycle.Among.TheVariants.{Down, Up}
 use Rattle.flow_choice.specs.Turns.{in_turn}
 use Rattle.flow_choice.specs.Choosing.{choice_of, first_enabled, input_count, output_count, chosen_down, chosen_up}
@@ -54,11 +54,11 @@ not_found test i to found h e =
 
 -- ---- one of a leaf's moves to an output, or to an input
 
-pub down_added : (s : State) (l o id next inputs : ℕ) (list new : List Move) → id ≡ next_id (leaf_state s l) → next ≡ turn_down (leaf_state s l) o → inputs ≡ input_count s.plan l
+pub down_added : (s : State) (l o id next inputs : ℕ) (list new : List Move) → id ≡ next_id (leaf_state s l) → next ≡ output_turn (leaf_state s l) o → inputs ≡ input_count s.plan l
     → new ≡ list ++ first_enabled s (choice_of (Down l o id)) (in_turn s.plan.policy next inputs) → new ≡ list ++ chosen_down s l o
 down_added s l o id next inputs list new e f g h = rw (← e, ← f, ← g) h
 
-pub up_added : (s : State) (l i next outputs : ℕ) (list new : List Move) → next ≡ turn_up (leaf_state s l) i → outputs ≡ output_count s.plan l
+pub up_added : (s : State) (l i next outputs : ℕ) (list new : List Move) → next ≡ input_turn (leaf_state s l) i → outputs ≡ output_count s.plan l
     → new ≡ list ++ first_enabled s (choice_of (Up l i)) (in_turn s.plan.policy next outputs) → new ≡ list ++ chosen_up s l i
 up_added s l i next outputs list new f g h = rw (← f, ← g) h
 

@@ -16,7 +16,7 @@ use Rattle.tl_edge.specs.declared.plan.PlanPort.{PlanPort}
 use Rattle.flow_core.specs.declared.moves.Move.{Move}
 use Rattle.flow_core.specs.declared.moves.Move.TheVariants.{Enter, Leave, Reply, Return, AbsorbA, AbsorbD, ForwardA, ForwardD}
 use Rattle.flow_core.specs.Network.{State, Part, is_enabled, edge_of_port, in_edge, out_edge, both, part_a, part_d}
-use Rattle.flow_core.specs.Turns.{leaf_state, turn_down, turn_up, next_id}
+use Rattle.flow_core.specs.Turns.{leaf_state, output_turn, input_turn, next_id}
 use Rattle.flow_choice.specs.declared.cycle.Among.TheVariants as Among
 use Rattle.flow_choice.specs.declared.offers.Offers.{Offers}
 use Rattle.flow_choice.specs.Turns.{in_turn}
@@ -160,16 +160,16 @@ module _ (s : State) (offers : Offers) where
       (each_has (leaf_moves s) move (length s.plan.leaves) leaf h (Contains-append_right (leaf_moves_a s leaf) (leaf_moves_d s leaf) move c))
 
   by_down : (leaf input output id : ℕ) → id ≡ next_id (leaf_state s leaf) → IsTrue (is_enabled s (ForwardA leaf input output id))
-      → IsFirst s (λ from. ForwardA leaf from output id) (turn_down (leaf_state s leaf) output) (input_count s.plan leaf) input
+      → IsFirst s (λ from. ForwardA leaf from output id) (output_turn (leaf_state s leaf) output) (input_count s.plan leaf) input
       → Contains (chosen_down s leaf output) (ForwardA leaf input output id)
   by_down leaf input output id q h first = at id q h first
     where
       at : (id : ℕ) → id ≡ next_id (leaf_state s leaf) → IsTrue (is_enabled s (ForwardA leaf input output id))
-          → IsFirst s (λ from. ForwardA leaf from output id) (turn_down (leaf_state s leaf) output) (input_count s.plan leaf) input
+          → IsFirst s (λ from. ForwardA leaf from output id) (output_turn (leaf_state s leaf) output) (input_count s.plan leaf) input
           → Contains (chosen_down s leaf output) (ForwardA leaf input output id)
       at id q h first =
-          subst (λ new. Contains (first_enabled s (choice_of (Among.Down leaf output new)) (in_turn s.plan.policy (turn_down (leaf_state s leaf) output) (input_count s.plan leaf))) (ForwardA leaf input output id)) q
-          (first_has s (choice_of (Among.Down leaf output id)) (turn_down (leaf_state s leaf) output) (input_count s.plan leaf) input h first)
+          subst (λ new. Contains (first_enabled s (choice_of (Among.Down leaf output new)) (in_turn s.plan.policy (output_turn (leaf_state s leaf) output) (input_count s.plan leaf))) (ForwardA leaf input output id)) q
+          (first_has s (choice_of (Among.Down leaf output id)) (output_turn (leaf_state s leaf) output) (input_count s.plan leaf) input h first)
 
   pub is_chosen : (move : Move) → IsTrue (is_enabled s move) → IsAsked s offers move → Contains (chosen_moves s offers) move
   is_chosen (Enter port beat tag) h asked =
@@ -224,7 +224,7 @@ module _ (s : State) (offers : Offers) where
       at_leaf_d leaf (ForwardD leaf input output) there.0
       (Contains-append_right (if_enabled s (AbsorbD leaf)) (of_each (input_count s.plan leaf) (chosen_up s leaf)) (ForwardD leaf input output)
       (each_has (chosen_up s leaf) (ForwardD leaf input output) (input_count s.plan leaf) input there.1
-      (first_has s (choice_of (Among.Up leaf input)) (turn_up (leaf_state s leaf) input) (output_count s.plan leaf) output h asked)))
+      (first_has s (choice_of (Among.Up leaf input)) (input_turn (leaf_state s leaf) input) (output_count s.plan leaf) output h asked)))
 
 pub exactly_asked : ChosenLaw
 exactly_asked = λ s offers move. (

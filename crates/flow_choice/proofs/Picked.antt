@@ -15,7 +15,7 @@ use Rattle.tl_edge.specs.declared.beat.Tag.{Tag}
 use Rattle.flow_core.specs.declared.moves.Move.{Move}
 use Rattle.flow_core.specs.declared.moves.Move.TheVariants.{Enter, Leave, Reply, Return, AbsorbA, AbsorbD}
 use Rattle.flow_core.specs.Network.{State, is_enabled}
-use Rattle.flow_core.specs.Turns.{leaf_state, turn_down, turn_up, next_id}
+use Rattle.flow_core.specs.Turns.{leaf_state, output_turn, input_turn, next_id}
 use Rattle.flow_choice.specs.declared.cycle.Among.TheVariants as Among
 use Rattle.flow_choice.specs.declared.offers.Offers.{Offers}
 use Rattle.flow_choice.specs.Turns.{in_turn}
@@ -225,10 +225,10 @@ module _ (s : State) (offers : Offers) where
 
   downs : (l o : ℕ) → Each Right (chosen_down s l o)
   downs l o =
-      firsts (choice_of (Among.Down l o (next_id (leaf_state s l)))) (turn_down (leaf_state s l) o) (input_count s.plan l) (λ n h. (refl, h))
+      firsts (choice_of (Among.Down l o (next_id (leaf_state s l)))) (output_turn (leaf_state s l) o) (input_count s.plan l) (λ n h. (refl, h))
 
   ups : (l i : ℕ) → Each Right (chosen_up s l i)
-  ups l i = firsts (choice_of (Among.Up l i)) (turn_up (leaf_state s l) i) (output_count s.plan l) (λ n h. h)
+  ups l i = firsts (choice_of (Among.Up l i)) (input_turn (leaf_state s l) i) (output_count s.plan l) (λ n h. h)
 
   of_leaf : (l : ℕ) → Each Right (leaf_moves s l)
   of_leaf l =

@@ -77,8 +77,8 @@ pub record StraightExample : Type 0 where
 -- ---- two sources, a crossbar and a memory
 
 -- a beat of a put with an id and this data
-abbrev pub put_beat : ℕ → ℕ → Option (ABeat × Tag)
-put_beat id payload = Some (put_16 id payload, no_tag)
+abbrev pub port_beat : ℕ → ℕ → Option (ABeat × Tag)
+port_beat id payload = Some (put_16 id payload, no_tag)
 
 -- a cycle in which the sources offer these, and the memory takes
 abbrev pub both_offer : (first second : Option (ABeat × Tag)) → Offers
@@ -92,17 +92,17 @@ both_offer first second = record {
 -- each source sends puts 0 and 1, of the data 1 and 2, then 3 and 4; a beat is offered until it enters
 abbrev pub until_lowest : List Offers
 until_lowest =
-    both_offer (put_beat 0 1) (put_beat 0 1) ∷ both_offer (put_beat 0 2) (put_beat 0 2)
-    ∷ both_offer (put_beat 1 3) (put_beat 1 3) ∷ both_offer (put_beat 1 4) (put_beat 1 3)
-    ∷ both_offer None (put_beat 1 3) ∷ both_offer None (put_beat 1 3) ∷ both_offer None (put_beat 1 3)
-    ∷ both_offer None (put_beat 1 4) ∷ both_offer None None ∷ both_offer None None ∷ []
+    both_offer (port_beat 0 1) (port_beat 0 1) ∷ both_offer (port_beat 0 2) (port_beat 0 2)
+    ∷ both_offer (port_beat 1 3) (port_beat 1 3) ∷ both_offer (port_beat 1 4) (port_beat 1 3)
+    ∷ both_offer None (port_beat 1 3) ∷ both_offer None (port_beat 1 3) ∷ both_offer None (port_beat 1 3)
+    ∷ both_offer None (port_beat 1 4) ∷ both_offer None None ∷ both_offer None None ∷ []
 
 -- the same where the crossbar goes round, and so the second source's third beat enters two cycles earlier
 abbrev pub until_round : List Offers
 until_round =
-    both_offer (put_beat 0 1) (put_beat 0 1) ∷ both_offer (put_beat 0 2) (put_beat 0 2)
-    ∷ both_offer (put_beat 1 3) (put_beat 1 3) ∷ both_offer (put_beat 1 4) (put_beat 1 3)
-    ∷ both_offer None (put_beat 1 3) ∷ both_offer None (put_beat 1 4) ∷ both_offer None None
+    both_offer (port_beat 0 1) (port_beat 0 1) ∷ both_offer (port_beat 0 2) (port_beat 0 2)
+    ∷ both_offer (port_beat 1 3) (port_beat 1 3) ∷ both_offer (port_beat 1 4) (port_beat 1 3)
+    ∷ both_offer None (port_beat 1 3) ∷ both_offer None (port_beat 1 4) ∷ both_offer None None
     ∷ both_offer None None ∷ both_offer None None ∷ both_offer None None ∷ []
 
 -- the ids and data of the beats that have left in some cycles

@@ -11,7 +11,7 @@ use Rattle.tl_edge.specs.declared.plan.Plan.{Plan}
 use Rattle.flow_core.specs.declared.moves.Move.{Move}
 use Rattle.flow_core.specs.declared.moves.Move.TheVariants.{Enter, Leave, Reply, Return, AbsorbA, AbsorbD, ForwardA, ForwardD}
 use Rattle.flow_core.specs.Network.{State, is_enabled, state_after}
-use Rattle.flow_core.specs.Turns.{leaf_state, turn_down, turn_up, next_id}
+use Rattle.flow_core.specs.Turns.{leaf_state, output_turn, input_turn, next_id}
 use Rattle.flow_choice.specs.declared.cycle.Among.{Among}
 use Rattle.flow_choice.specs.declared.cycle.Among.TheVariants.{Down, Up}
 use Rattle.flow_choice.specs.declared.offers.Offers.{Offers}
@@ -81,13 +81,13 @@ first_enabled state move turns =
 abbrev pub chosen_down : State → ℕ → ℕ → List Move
 chosen_down state leaf output =
     first_enabled state (choice_of (Down leaf output (next_id (leaf_state state leaf))))
-    (in_turn state.plan.policy (turn_down (leaf_state state leaf) output) (input_count state.plan leaf))
+    (in_turn state.plan.policy (output_turn (leaf_state state leaf) output) (input_count state.plan leaf))
 
 -- to an input: from the first output in turn from which a beat may go there
 abbrev pub chosen_up : State → ℕ → ℕ → List Move
 chosen_up state leaf input =
     first_enabled state (choice_of (Up leaf input))
-    (in_turn state.plan.policy (turn_up (leaf_state state leaf) input) (output_count state.plan leaf))
+    (in_turn state.plan.policy (input_turn (leaf_state state leaf) input) (output_count state.plan leaf))
 
 -- of a leaf on channel A: by output; where it takes a beat without putting one, that stands first
 abbrev pub leaf_moves_a : State → ℕ → List Move

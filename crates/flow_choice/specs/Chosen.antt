@@ -5,7 +5,7 @@ use Rattle.tl_params.specs.declared.ops.Policy.TheVariants.{Lowest, Round}
 use Rattle.flow_core.specs.declared.moves.Move.{Move}
 use Rattle.flow_core.specs.declared.moves.Move.TheVariants.{Enter, Leave, Reply, Return, AbsorbA, AbsorbD, ForwardA, ForwardD}
 use Rattle.flow_core.specs.Network.{State, is_enabled}
-use Rattle.flow_core.specs.Turns.{leaf_state, turn_down, turn_up, next_id}
+use Rattle.flow_core.specs.Turns.{leaf_state, output_turn, input_turn, next_id}
 use Rattle.flow_choice.specs.declared.offers.Offers.{Offers}
 use Rattle.flow_choice.specs.Choosing.{input_count, output_count, chosen_moves}
 
@@ -33,10 +33,10 @@ IsAsked state offers (AbsorbA leaf) = Unit {0}
 IsAsked state offers (AbsorbD leaf) = Unit {0}
 IsAsked state offers (ForwardA leaf input output id) =
     (id ≡ next_id (leaf_state state leaf))
-    × IsFirst state (λ from. ForwardA leaf from output id) (turn_down (leaf_state state leaf) output)
+    × IsFirst state (λ from. ForwardA leaf from output id) (output_turn (leaf_state state leaf) output)
     (input_count state.plan leaf) input
 IsAsked state offers (ForwardD leaf input output) =
-    IsFirst state (λ from. ForwardD leaf input from) (turn_up (leaf_state state leaf) input)
+    IsFirst state (λ from. ForwardD leaf input from) (input_turn (leaf_state state leaf) input)
     (output_count state.plan leaf) output
 
 -- exactly those moves are chosen that may be made and are asked for, whatever the state

@@ -44,8 +44,8 @@ two_to_one policy = record {
   sinks = example_port (codes "ram") 5 2 ∷ [];
 }
 
--- a request of each source waits for the crossbar, and one has passed it; an answer waits for each source, and one for
--- the crossbar; the gate of the output as given
+-- a request of each source waits for the crossbar, and one has passed it; an answer waits for the first source, and one
+-- for the crossbar; the gate of the output as given
 abbrev pub busy : Policy → Gate → State
 busy policy gate = record {
   plan = two_to_one policy;

@@ -11,7 +11,7 @@ use Rattle.tl_edge.specs.declared.plan.PlanPort.{PlanPort}
 use Rattle.tl_edge.specs.declared.plan.Plan.{Plan}
 use Rattle.tl_edge.specs.Beats.{request_beats, response_beats, beats_of_request, beats_of_response}
 use Rattle.tl_edge.specs.Legal.{IsLegalAt}
-use Rattle.tl_edge.specs.Messages.{ack_of, bytes_of, brings_data}
+use Rattle.tl_edge.specs.Messages.{AreBytes, ack_of, bytes_of, brings_data}
 use Rattle.tl_edge.specs.Plans.{edge_at, bus_width}
 use Rattle.flow_core.specs.declared.moves.Move.{Move}
 use Rattle.flow_core.specs.declared.moves.Move.TheVariants.{Enter, Leave, Reply, Return}
@@ -138,12 +138,14 @@ pub record EntersNext (plan : Plan) (asks : List Request) (before : List Move) (
       → awaited (port_width plan plan.sources port) request.source (take number asks)
       ≤ with_id request.source (all_returned port (network_at_start plan) before)
 
--- a response answers a request by its first beat: the op that answers it, its size and id, and all bytes of its data
+-- a response answers a request by its first beat: the op that answers it, its size and id, and all bytes of its data,
+-- each of which is a byte
 pub record AnswersIt (first : ABeat) (response : Response) : Type 0 where
   pub op : response.op ≡ ack_of first.op
   pub size : response.size ≡ first.size
   pub source : response.source ≡ first.source
   pub bytes : length response.payload ≡ cond (brings_data response.op) (bytes_of response.size) 0
+  pub each : AreBytes response.payload
 
 -- what is replied at a port next: the beat with a number of a response, behind the beats of all responses before it and
 -- those of its own; the response answers the request that left there whole with the same number, and has its tag

@@ -229,8 +229,8 @@ fn output_count(network: &Network, leaf: u32) -> u32
 
 // Which input's turn is next at an output of a leaf.
 #[tactic(auto, using(crate::proofs::Served::turn_at_output))]
-fn turn_down(network: &Network, leaf: u32, output: u32) -> usize
-    ensures { result ≡ turns.turn_down (turns.leaf_state network.now leaf) output }
+fn output_turn(network: &Network, leaf: u32, output: u32) -> usize
+    ensures { result ≡ turns.output_turn (turns.leaf_state network.now leaf) output }
 {
     match network.output_gate(leaf, output) {
         None => 0,
@@ -240,8 +240,8 @@ fn turn_down(network: &Network, leaf: u32, output: u32) -> usize
 
 // Which output's turn is next at an input of a leaf.
 #[tactic(auto, using(crate::proofs::Served::turn_at_input))]
-fn turn_up(network: &Network, leaf: u32, input: u32) -> usize
-    ensures { result ≡ turns.turn_up (turns.leaf_state network.now leaf) input }
+fn input_turn(network: &Network, leaf: u32, input: u32) -> usize
+    ensures { result ≡ turns.input_turn (turns.leaf_state network.now leaf) input }
 {
     match network.input_gate(leaf, input) {
         None => 0,
@@ -286,7 +286,7 @@ fn add_downs(list: &mut Moves, network: &Network, leaf: u32) -> Result<(), Memor
     let outputs = output_count(network, leaf);
     let id = network.next_id(leaf);
     for output in 0..outputs {
-        let next = turn_down(network, leaf, output);
+        let next = output_turn(network, leaf, output);
         add_first(
             list,
             network,
@@ -307,7 +307,7 @@ fn add_ups(list: &mut Moves, network: &Network, leaf: u32) -> Result<(), Memory>
     let inputs = input_count(network, leaf);
     let outputs = output_count(network, leaf);
     for input in 0..inputs {
-        let next = turn_up(network, leaf, input);
+        let next = input_turn(network, leaf, input);
         add_first(list, network, Among::Up { leaf, input }, next, outputs)?;
     }
     Ok(())
@@ -394,11 +394,12 @@ fn add_ports(list: &mut Moves, network: &Network, offers: &Offers) -> Result<(),
 
 /// Makes `into` the chosen moves of a cycle at whose start the network is as it stands.
 ///
-/// They are all moves that may be made now, but that of those to one output of a crossbar, or back to one of
-/// its inputs, one alone is chosen by the plan's policy, and that a shrinker takes its lowest free id: source
-/// ports in order, what enters before what returns; sink ports in order, what leaves before what is replied;
-/// leaves in order, on channel A by output, then on channel D by input. A port of which the offers say
-/// nothing offers and takes nothing. After `Memory`, `into` is as before.
+/// They are all moves of leaves that may be made now, and those that ports offer or take, but that of those
+/// to one output of a crossbar, or back to one of its inputs, one alone is chosen by the plan's policy, and
+/// that the first beat of a request takes a shrinker's lowest free id and later ones that of their request:
+/// source ports in order, what enters before what returns; sink ports in order, what leaves before what is
+/// replied; leaves in order, on channel A by output, then on channel D by input. A port of which the offers
+/// say nothing offers and takes nothing. After `Memory`, `into` is as before.
 pub fn choose(
     alloc: Global,
     network: &Network,

@@ -210,7 +210,7 @@ abbrev pub held : LeafState → Held
 held leaf = record { leaf = leaf; tag = no_tag }
 
 -- a crossbar takes any input and output and no new id, a shrinker one input, one output and any new id, and the width
--- adapter none of these; the tag of a head passes
+-- adapter one input, one output and no new id; the tag of a head passes
 pub record LinesExample : Type 0 where
   pub crossbar : (tag : Tag)
       → held_down (held (XbarState example_bar (with_output_0 open_gate))) 0 0 0 (put_16 1 7, tag)

@@ -18,20 +18,20 @@ abbrev pub turn_of : List Gate → ℕ → ℕ
 turn_of gates place = option_map_or (λ (gate : Gate). gate.next) (slice_get gates place) 0
 
 -- which input's turn is next at an output; where there is one input alone it is that one's
-abbrev pub turn_down : LeafState → ℕ → ℕ
-turn_down BufferState output = 0
-turn_down (XbarState bar gates) output = turn_of gates.outs output
-turn_down (ShrinkerState width slots) output = 0
-turn_down (WidthState widths widget) output = 0
-turn_down (FragmenterState knife hand) output = 0
+abbrev pub output_turn : LeafState → ℕ → ℕ
+output_turn BufferState output = 0
+output_turn (XbarState bar gates) output = turn_of gates.outs output
+output_turn (ShrinkerState width slots) output = 0
+output_turn (WidthState widths widget) output = 0
+output_turn (FragmenterState knife hand) output = 0
 
 -- which output's turn is next at an input
-abbrev pub turn_up : LeafState → ℕ → ℕ
-turn_up BufferState input = 0
-turn_up (XbarState bar gates) input = turn_of gates.ins input
-turn_up (ShrinkerState width slots) input = 0
-turn_up (WidthState widths widget) input = 0
-turn_up (FragmenterState knife hand) input = 0
+abbrev pub input_turn : LeafState → ℕ → ℕ
+input_turn BufferState input = 0
+input_turn (XbarState bar gates) input = turn_of gates.ins input
+input_turn (ShrinkerState width slots) input = 0
+input_turn (WidthState widths widget) input = 0
+input_turn (FragmenterState knife hand) input = 0
 
 -- the lowest free id, 0 where none is free
 abbrev pub lowest_free : List (Option ℕ) → ℕ

@@ -206,7 +206,9 @@ impl<'a> Network<'a> {
         false
     }
 
-    /// Whether a move may be made: it names what is there, and has the head and the room that it needs.
+    /// Whether a move may be made: it names what is there, and has the head and the room that it needs; the
+    /// leaf acts on that head (by owner, lock and id), and the edge of a port carries the beat that is put
+    /// there.
     pub fn enabled(&self, step: &Move) -> bool
         ensures { result ≡ spec.is_enabled self.now step.now }
     {
@@ -349,7 +351,8 @@ impl<'a> Network<'a> {
         self.plan
     }
 
-    /// The new id of the next beat of a request at a leaf; 0 where the leaf has no choice of an id.
+    /// The new id of the next beat of a request at a leaf; 0 where it has no choice of an id, where none is
+    /// free, and where there is no such leaf.
     pub fn next_id(&self, leaf: u32) -> u32
         ensures { result ≡ turns.next_id (turns.leaf_state self.now leaf) }
     {

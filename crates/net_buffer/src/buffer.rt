@@ -49,7 +49,8 @@ fn pass(alloc: Global, builder: &mut Builder, from: &Queue, to: &Queue) -> Resul
 }
 
 /// Builds a buffer between the open queues of its in edge and its out edge: where there are a head and room,
-/// a request goes down and a response up. It adds no port and drives no earlier register.
+/// a request goes down and a response up, as long as what is put fits the wires of its edge. It adds no port
+/// and drives no earlier register.
 pub fn build_buffer(
     alloc: Global,
     builder: &mut Builder,

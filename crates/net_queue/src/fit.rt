@@ -37,8 +37,7 @@ fn narrowed(builder: &mut Builder, wire: Wire, width: u32) -> Result<Wire, Memor
     Ok(low)
 }
 
-/// A wire with another width, in bits, and the same value wherever that fits: zeros are put before it, or its
-/// low bits are taken. A wire of that width already is answered itself.
+/// A wire with another width, in bits, and the same value wherever that fits.
 #[tactic(auto, using(crate::proofs::Fitted::adds_same, crate::proofs::Fitted::keeps_itself))]
 pub fn fit_wire(builder: &mut Builder, wire: Wire, width: u32) -> Result<Wire, Memory>
     requires wire { IsWire builder.old wire }

@@ -74,8 +74,9 @@ pub fn open_queue(builder: &mut Builder, widths: &[u32]) -> Result<Queue, Memory
     })
 }
 
-/// Closes an open queue: an item is put at its end where `push` is 1, and its head is taken where `pop` is.
-/// It adds no port, and drives the registers of the queue alone.
+/// Closes an open queue: an item is put at its end where `push` is 1, and its head is taken where `pop` is,
+/// as long as `push` comes only where there is room and `pop` only where there is a head. It adds no port,
+/// and drives the registers of the queue alone.
 pub fn close_queue(
     alloc: Global,
     builder: &mut Builder,

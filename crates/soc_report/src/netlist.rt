@@ -8,7 +8,7 @@ use net_cells::Netlist;
 fn add_counted(into: &mut [u8], at: usize, word: &[u8], count: usize) -> usize
     requires { at + length word.now + 22 ≤ length into.now }
     ensures end { result ≤ at + length word.now + 22 }
-    ensures text { take result into.new ≡ take at into.old ++ spec.counted word.now count }
+    ensures text { take result into.new ≡ take at into.old ++ spec.count_of word.now count }
     ensures room { length into.new ≡ length into.old }
 {
     let end = add(into, at, b" ");
@@ -17,8 +17,8 @@ fn add_counted(into: &mut [u8], at: usize, word: &[u8], count: usize) -> usize
     add_number(into, end, count as u64)
 }
 
-/// Writes the line of a netlist to the front of `into`, and answers how many bytes it has: the module's name, and how
-/// many inputs, outputs, registers and cells it has. It takes no memory.
+/// Writes the line of a netlist to the front of `into`, and answers how many bytes it has: the module's
+/// name, and how many inputs, outputs, registers and cells it has. It takes no memory.
 #[tactic(auto, unfolding(crate::specs::NetlistLine::netlist_line))]
 pub fn netlist_line(netlist: &Netlist, into: &mut [u8; 256]) -> usize
     ensures within { result ≤ 256 }

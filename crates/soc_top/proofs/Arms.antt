@@ -16,7 +16,7 @@ use Rattle.soc_top.specs.Designs.{first_failure, answer_of, called_for}
 use Rattle.soc_top.specs.Texts.{most_text, most_text_loaded, said_by, answer_to, line_said, IsTextOf, IsRefusedAt, too_long, no_netlist}
 use Rattle.soc_top.specs.Printing.{Printed}
 use Rattle.soc_top.specs.Worlds.{World, IsLoaded}
-use Rattle.soc_top.specs.Answers.{most_loaded, MapAnswered, ReadAnswered, UsageAnswered, Answered, Completed, Gives}
+use Rattle.soc_top.specs.Answers.{most_loaded, MapAnswered, ReadAnswered, UsageAnswered, Answered, Completed, AnsweredBy}
 use Rattle.soc_top.proofs.ReadRuns.{within_said, beyond_said}
 
 -- what was appended to nothing
@@ -102,7 +102,7 @@ refused_said bytes place (no_netlist w none e) = within_said bytes (Err place) w
 module _ (rules : List StatedRule) (name : List ℕ) (before after : World) where
   map_gives : (result : Status) → MapAnswered rules name before after result → (all : List ℕ) → before.files.content name ≡ Some (Some all)
       → ¬ (LoadsRose name before.files after.files)
-      → Gives (answer_of (first_failure rules (take most_loaded all))) (called_for rules (take most_loaded all)) before after result
+      → AnsweredBy (answer_of (first_failure rules (take most_loaded all))) (called_for rules (take most_loaded all)) before after result
   unfolding MapAnswered
   map_gives Done (bytes, l, passes, is_map, written) all t no_load =
       let same : bytes ≡ take most_loaded all = whole most_loaded name before bytes all t l in
@@ -120,7 +120,7 @@ module _ (rules : List StatedRule) (name : List ℕ) (before after : World) wher
 
   read_gives : (result : Status) → ReadAnswered name before after result → (all : List ℕ) → before.files.content name ≡ Some (Some all)
       → ¬ (LoadsRose name before.files after.files)
-      → Gives (answer_to (said_by (take most_text_loaded all))) (line_said (said_by (take most_text_loaded all))) before after result
+      → AnsweredBy (answer_to (said_by (take most_text_loaded all))) (line_said (said_by (take most_text_loaded all))) before after result
   unfolding ReadAnswered
   read_gives Done (bytes, (netlist, l, text, written)) all t no_load =
       let same : bytes ≡ take most_text_loaded all = whole most_text_loaded name before bytes all t l in

@@ -75,8 +75,8 @@ pub record Answered (rules : List StatedRule) (words : List (List ℕ)) (before 
   pub usage : HaveNoForm words → UsageAnswered before after result
 
 -- this answer came with this text, written whole; a failed write and want of memory are apart
-abbrev pub Gives : Status → List ℕ → World → World → Status → Type 0
-Gives wanted text before after result =
+abbrev pub AnsweredBy : Status → List ℕ → World → World → Status → Type 0
+AnsweredBy wanted text before after result =
     (result ≡ Memory) ⊎ (result ≡ WriteFailed) ⊎ ((result ≡ wanted) × Writes text before.out after.out)
 
 -- The other direction: where the words have no stated form, the answer is the usage; where a file is told and was
@@ -87,9 +87,9 @@ pub record Completed (rules : List StatedRule) (words : List (List ℕ)) (before
   pub of_words : HaveNoForm words → (result ≡ WriteFailed) ⊎ (result ≡ Usage)
   pub of_design : (name all : List ℕ) → design_named words ≡ Some name → before.files.content name ≡ Some (Some all)
       → ¬ (LoadsRose name before.files after.files)
-      → Gives (answer_of (first_failure rules (take most_loaded all))) (called_for rules (take most_loaded all))
+      → AnsweredBy (answer_of (first_failure rules (take most_loaded all))) (called_for rules (take most_loaded all))
       before after result
   pub of_text : (name all : List ℕ) → text_named words ≡ Some name → before.files.content name ≡ Some (Some all)
       → ¬ (LoadsRose name before.files after.files)
-      → Gives (answer_to (said_by (take most_text_loaded all))) (line_said (said_by (take most_text_loaded all)))
+      → AnsweredBy (answer_to (said_by (take most_text_loaded all))) (line_said (said_by (take most_text_loaded all)))
       before after result
