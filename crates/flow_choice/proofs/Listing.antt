@@ -228,6 +228,19 @@ module _ (s : State) (offers : Offers) where
       (forget (AtLeaf l) OnA _ (each-append (Known (AtLeaf l) OnA) (if_enabled s (AbsorbA l)) (of_each (output_count s.plan l) (chosen_down s l)) (absorbs_a l) (each_flat (Known (AtLeaf l) OnA) (chosen_down s l) (downs_known l) 0 (output_count s.plan l))))
       (forget (AtLeaf l) OnD _ (each-append (Known (AtLeaf l) OnD) (if_enabled s (AbsorbD l)) (of_each (input_count s.plan l) (chosen_up s l)) (absorbs_d l) (each_flat (Known (AtLeaf l) OnD) (chosen_up s l) (ups_known l) 0 (input_count s.plan l))))
 
+  -- whose the moves are
+  pub source_who : (port : ℕ) → Each (λ m. who m ≡ AtSource port) (source_moves s offers port)
+  unfolding AtOne
+  source_who port = each_map (AtOne (AtSource port)) (λ m. who m ≡ AtSource port) (λ m h. h.0) (source_moves s offers port) (sources_at port)
+
+  pub sink_who : (port : ℕ) → Each (λ m. who m ≡ AtSink port) (sink_moves s offers port)
+  unfolding AtOne
+  sink_who port = each_map (AtOne (AtSink port)) (λ m. who m ≡ AtSink port) (λ m h. h.0) (sink_moves s offers port) (sinks_at port)
+
+  pub leaf_who : (l : ℕ) → Each (λ m. who m ≡ AtLeaf l) (leaf_moves s l)
+  unfolding AtOne
+  leaf_who l = each_map (AtOne (AtLeaf l)) (λ m. who m ≡ AtLeaf l) (λ m h. h.0) (leaf_moves s l) (leaf_known l)
+
   module _ (plan : Plan) (valid : IsValid plan s) where
     -- from two inputs to two outputs
     two_down : (l o p : ℕ) (m n : Move) → o ≢ p → IsSome s (choice_of (Among.Down l o (next_id (leaf_state s l)))) m → IsSome s (choice_of (Among.Down l p (next_id (leaf_state s l)))) n → AreDistinct m n

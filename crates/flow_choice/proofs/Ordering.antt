@@ -116,11 +116,11 @@ from_after : (s : State) (m n : Move) (ms : List Move) → AreApart s m n → Ap
 from_after s m n [] a b c = tt
 from_after s m n (p ∷ ms) a b c = (stay_apart s m n p a b.0 c.0, from_after s m n ms a b.1 c.1)
 
-all_after : (s : State) (m : Move) (ms : List Move) → ApartFrom s m ms → AllApart s ms → AllApart (state_after s m) ms
+pub all_after : (s : State) (m : Move) (ms : List Move) → ApartFrom s m ms → AllApart s ms → AllApart (state_after s m) ms
 all_after s m [] a h = tt
 all_after s m (n ∷ ms) a h = ((apart_commute s m n a.0).second, from_after s m n ms a.0 a.1 h.1, all_after s m ms a.1 h.2)
 
-runs : (s : State) (ms : List Move) → AllApart s ms → RunsTo s ms (state_after_moves s ms)
+pub runs : (s : State) (ms : List Move) → AllApart s ms → RunsTo s ms (state_after_moves s ms)
 runs s [] h = refl
 runs s (m ∷ ms) h = (h.0, runs (state_after s m) ms (all_after s m ms h.1 h.2))
 
@@ -136,7 +136,7 @@ reordered_all s (skip {m = p} r) h = (h.0, reordered_from s p r h.1, reordered_a
 reordered_all s (flip {m = p} {n = q}) h = (h.2.0, (turned s p q h.1.0, h.2.1), (h.0, h.1.1, h.2.2))
 reordered_all s (then r u) h = reordered_all s u (reordered_all s r h)
 
-to_reordered : (s t : State) {ms ns : List Move} → Reordered ms ns → AllApart s ms → RunsTo s ms t → RunsTo s ns t
+pub to_reordered : (s t : State) {ms ns : List Move} → Reordered ms ns → AllApart s ms → RunsTo s ms t → RunsTo s ns t
 to_reordered s t same h g = g
 to_reordered s t (skip {m = p} {ms} r) h g = (g.0, to_reordered (state_after s p) t r (all_after s p ms h.1 h.2) g.1)
 to_reordered s t (flip {m = p} {n = q} {ms}) h g =

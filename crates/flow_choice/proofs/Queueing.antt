@@ -38,11 +38,11 @@ took_by true o e h = h
 took_by false o e h = absurd cc
 
 module _ {B : Type 0} where
-  pub HasHead : List (List B) → Option ℕ → Type 0
+  unfoldable pub HasHead : List (List B) → Option ℕ → Type 0
   HasHead qs None = Unit {0}
   HasHead qs (Some e) = 0 < length (queue qs e)
 
-  pub HasRoom : List (List B) → Option (ℕ × B) → Type 0
+  unfoldable pub HasRoom : List (List B) → Option (ℕ × B) → Type 0
   HasRoom qs None = Unit {0}
   HasRoom qs (Some p) = (p.0 < length qs) × (length (queue qs p.0) < 2)
 

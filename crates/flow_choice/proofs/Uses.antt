@@ -75,13 +75,13 @@ pub record AreDistinct (m n : Move) : Type 0 where
   pub d_takers : (t : Taker) → d_taker m ≡ Some t → d_taker n ≢ Some t
 
 -- a flow between the queues of these
-record Uses {E F : Type 0} {B : Type 0} (from : Option E) (to : Option F) (Takes : ℕ → E → Type 0) (Puts : ℕ → F → Type 0) (f : Flow B) : Type 0 where
-  takes : (e : ℕ) → f.from ≡ Some e → (t : E) × (from ≡ Some t) × Takes e t
-  puts : (p : ℕ × B) → f.put ≡ Some p → (g : F) × (to ≡ Some g) × Puts p.0 g
+pub record Uses {E F : Type 0} {B : Type 0} (from : Option E) (to : Option F) (Takes : ℕ → E → Type 0) (Puts : ℕ → F → Type 0) (f : Flow B) : Type 0 where
+  pub takes : (e : ℕ) → f.from ≡ Some e → (t : E) × (from ≡ Some t) × Takes e t
+  pub puts : (p : ℕ × B) → f.put ≡ Some p → (g : F) × (to ≡ Some g) × Puts p.0 g
 
-record UsesBoth (plan : Plan) (m : Move) (j : Job) : Type 0 where
-  a : Uses (a_taker m) (a_giver m) (TakesFrom plan) (GivesTo plan) j.a
-  d : Uses (d_giver m) (d_taker m) (GivesTo plan) (TakesFrom plan) j.d
+pub record UsesBoth (plan : Plan) (m : Move) (j : Job) : Type 0 where
+  pub a : Uses (a_taker m) (a_giver m) (TakesFrom plan) (GivesTo plan) j.a
+  pub d : Uses (d_giver m) (d_taker m) (GivesTo plan) (TakesFrom plan) j.d
 
 none_some : {A : Type 0} (x : A) → None ≡ Some x → ⊥
 none_some x e = cc
@@ -146,7 +146,7 @@ up_uses s l k i o m j mg mt e is =
       d = subst (Uses (d_giver m) (d_taker m) (GivesTo s.plan) (TakesFrom s.plan)) f v;
     }
 
-job_uses : (s : State) (m : Move) (j : Job) → job s m ≡ Some j → UsesBoth s.plan m j
+pub job_uses : (s : State) (m : Move) (j : Job) → job s m ≡ Some j → UsesBoth s.plan m j
 job_uses s (Enter port beat tag) j e =
     let a = then_some (put_job_a s.plan beat tag) (edge_of_port s.plan.sources port) j e in
     let b = cond_some (carries_a (edge_at s.plan a.0) beat) _ j a.2 in
@@ -180,12 +180,12 @@ job_uses s (ForwardD l i o) j e = up_uses s l true i o (ForwardD l i o) j refl r
 
 -- ---- distinct moves of a sound plan use different queues
 
-one_giver : (plan : Plan) (e : ℕ) (g h : Giver) → IsSound plan → GivesTo plan e g → GivesTo plan e h → g ≡ h
+pub one_giver : (plan : Plan) (e : ℕ) (g h : Giver) → IsSound plan → GivesTo plan e g → GivesTo plan e h → g ≡ h
 one_giver plan e g h sound x y =
     let one = ends_law.giver plan e sound (ends_law.given plan e g sound x) in
     one.2 g x ∙ sym (one.2 h y)
 
-one_taker : (plan : Plan) (e : ℕ) (g h : Taker) → IsSound plan → TakesFrom plan e g → TakesFrom plan e h → g ≡ h
+pub one_taker : (plan : Plan) (e : ℕ) (g h : Taker) → IsSound plan → TakesFrom plan e g → TakesFrom plan e h → g ≡ h
 one_taker plan e g h sound x y =
     let one = ends_law.taker plan e sound (ends_law.taken plan e g sound x) in
     one.2 g x ∙ sym (one.2 h y)
@@ -265,15 +265,15 @@ who (AbsorbD leaf) = AtLeaf leaf
 who (ForwardA leaf input output id) = AtLeaf leaf
 who (ForwardD leaf input output) = AtLeaf leaf
 
-abbrev who_gives : Giver → Who
+abbrev pub who_gives : Giver → Who
 who_gives (Out leaf place) = AtLeaf leaf
 who_gives (Source port) = AtSource port
 
-abbrev who_takes : Taker → Who
+abbrev pub who_takes : Taker → Who
 who_takes (In leaf place) = AtLeaf leaf
 who_takes (Sink port) = AtSink port
 
-who_a_giver : (m : Move) (g : Giver) → a_giver m ≡ Some g → who_gives g ≡ who m
+pub who_a_giver : (m : Move) (g : Giver) → a_giver m ≡ Some g → who_gives g ≡ who m
 who_a_giver (Enter port beat tag) g e = ap who_gives (sym (same_Some _ _ e))
 who_a_giver (Leave port) g e = absurd (none_some g e)
 who_a_giver (Reply port beat tag) g e = absurd (none_some g e)
@@ -283,7 +283,7 @@ who_a_giver (AbsorbD leaf) g e = absurd (none_some g e)
 who_a_giver (ForwardA leaf input output id) g e = ap who_gives (sym (same_Some _ _ e))
 who_a_giver (ForwardD leaf input output) g e = absurd (none_some g e)
 
-who_a_taker : (m : Move) (g : Taker) → a_taker m ≡ Some g → who_takes g ≡ who m
+pub who_a_taker : (m : Move) (g : Taker) → a_taker m ≡ Some g → who_takes g ≡ who m
 who_a_taker (Enter port beat tag) g e = absurd (none_some g e)
 who_a_taker (Leave port) g e = ap who_takes (sym (same_Some _ _ e))
 who_a_taker (Reply port beat tag) g e = absurd (none_some g e)
@@ -293,7 +293,7 @@ who_a_taker (AbsorbD leaf) g e = absurd (none_some g e)
 who_a_taker (ForwardA leaf input output id) g e = ap who_takes (sym (same_Some _ _ e))
 who_a_taker (ForwardD leaf input output) g e = absurd (none_some g e)
 
-who_d_giver : (m : Move) (g : Giver) → d_giver m ≡ Some g → who_gives g ≡ who m
+pub who_d_giver : (m : Move) (g : Giver) → d_giver m ≡ Some g → who_gives g ≡ who m
 who_d_giver (Enter port beat tag) g e = absurd (none_some g e)
 who_d_giver (Leave port) g e = absurd (none_some g e)
 who_d_giver (Reply port beat tag) g e = absurd (none_some g e)
@@ -303,7 +303,7 @@ who_d_giver (AbsorbD leaf) g e = ap who_gives (sym (same_Some _ _ e))
 who_d_giver (ForwardA leaf input output id) g e = absurd (none_some g e)
 who_d_giver (ForwardD leaf input output) g e = ap who_gives (sym (same_Some _ _ e))
 
-who_d_taker : (m : Move) (g : Taker) → d_taker m ≡ Some g → who_takes g ≡ who m
+pub who_d_taker : (m : Move) (g : Taker) → d_taker m ≡ Some g → who_takes g ≡ who m
 who_d_taker (Enter port beat tag) g e = absurd (none_some g e)
 who_d_taker (Leave port) g e = absurd (none_some g e)
 who_d_taker (Reply port beat tag) g e = ap who_takes (sym (same_Some _ _ e))
