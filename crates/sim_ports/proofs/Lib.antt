@@ -1,7 +1,10 @@
 pub mod Bytewise
+pub mod Gathered
 pub mod Laid
 pub mod Limits
 pub mod Onward
 pub mod Placed
 pub mod Replaced
+pub mod Roomy
+pub mod Serves
 pub mod Worked

@@ -1,6 +1,7 @@
 -- The worked examples, computed.
 use Rattle.std.proofs.Common.{refl}
 use Rattle.sim_ports.specs.Examples.{AtomicsExample, MemoriesExample, PortExample}
+use Rattle.sim_ports.specs.SinkExample.{SinkExample}
 
 pub atomics_example : AtomicsExample
 atomics_example = record {
@@ -59,4 +60,28 @@ port_example = record {
   free = refl;
   goes_on = refl;
   finished = refl;
+}
+
+pub sink_example : SinkExample
+sink_example = record {
+  takes = refl;
+  stalled_on_a = refl;
+  none_yet = refl;
+  goes_on = refl;
+  half_offers = refl;
+  holds = refl;
+  too_early = refl;
+  in_time = refl;
+  stalled_on_d = refl;
+  again = refl;
+  takes_again = refl;
+  passed = refl;
+  one_cycle_more = refl;
+  reads = refl;
+  holds_on = refl;
+  second = refl;
+  waits = refl;
+  free = refl;
+  denied = refl;
+  denied_too = refl;
 }

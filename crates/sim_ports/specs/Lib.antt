@@ -4,4 +4,8 @@ pub mod Memories
 pub mod Layout
 pub mod Kept
 pub mod Sources
+pub mod Sinks
+pub mod Rooms
 pub mod Examples
+pub mod SinkLaws
+pub mod SinkExample

@@ -19,7 +19,7 @@ use std::marker::Model;
 use tl_edge::Request;
 use tl_params::Op;
 
-/// A memory: a RAM, a ROM, or one that denies all. Contracts see it as a device.
+/// A memory: a RAM, a ROM, or one that denies all. Contracts see it as it is kept.
 ///
 /// It keeps a byte for each address, and the runs of contiguous addresses in rising order: the bytes of a
 /// request are found by one search.

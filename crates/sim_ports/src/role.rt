@@ -1,10 +1,10 @@
-/// What a device is prepared as.
+/// What a device is prepared as. Each device states what it makes of it; `Cells` does what is said here.
 #[derive(Clone, Copy, Debug, PartialEq, Eq)]
 pub enum Role {
-    /// A memory that starts with zeros and does all requests.
+    /// It starts with zeros and does all requests.
     Ram,
-    /// A memory that holds at each address the low eight bits of it, and denies all that writes.
+    /// It holds at each address the low eight bits of it, and denies all that writes.
     Rom,
-    /// A memory that denies all requests.
+    /// It denies all requests.
     Deny,
 }

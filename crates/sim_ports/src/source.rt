@@ -1,10 +1,11 @@
-ghost use Rattle.std.specs.Prelude.{◌≡◌, ◌≤◌, ◌<◌, ◌+◌, ◌++◌, ◌∷◌, [], length, slice_index, slice_set, nat_eq, not, count_by, cond, ◌^◌, replicate, true, false, All, List, IsSome, IsTrue, IfOk, None, ℕ};
+ghost use Rattle.std.specs.Prelude.{◌≡◌, ◌≤◌, ◌<◌, ◌+◌, ◌++◌, ◌∷◌, [], length, slice_index, slice_set, nat_eq, not, count_by, cond, ◌^◌, true, false, All, List, IsSome, IsTrue, IfOk, None, ℕ};
 ghost use Rattle.tl_params.specs.Arguments.{is_width};
 ghost use Rattle.tl_edge.specs.declared.beat.Event.{Event};
 ghost use Rattle.tl_edge.specs.declared.beat.What.TheVariants.{Return};
 ghost use Rattle.sim_ports.specs.Sources as spec;
 
-use dip_lists::{Items, Memory};
+use crate::room::filled;
+use dip_lists::Memory;
 use std::alloc::Global;
 use std::marker::Model;
 use tl_edge::{ABeat, DBeat, Requests, a_beat, ack_of, beats, response_beats};
@@ -70,17 +71,6 @@ impl Model for SourceDriver {
     }) };
 }
 
-// No beats to come, for so many ids.
-fn none_left(alloc: Global, ids: u32) -> Result<Numbers, Memory>
-    ensures { IfOk result (λ left. left ≡ replicate ids 0) }
-{
-    let mut left = Items::new(alloc);
-    for _id in 0..ids {
-        left.push(0)?;
-    }
-    Ok(left)
-}
-
 // For how many ids beats are to come.
 fn busy_count(left: &[u32]) -> u32
     requires { length left.now < 2 ^ 32 }
@@ -105,7 +95,7 @@ fn mark(left: &mut Numbers, part: u32, id: u32, beats: u32)
 
 impl SourceDriver {
     /// A driver that has sent nothing: on a bus of `width` bytes, with `ids` ids, and with the first cycle in
-    /// which each request is offered.
+    /// which each request may be offered. It takes all of its memory.
     pub fn open(
         alloc: Global,
         width: u32,
@@ -125,7 +115,7 @@ impl SourceDriver {
             requests,
             starts,
             sent: Sent { whole: 0, part: 0 },
-            left: none_left(alloc, ids)?,
+            left: filled(alloc, 0, ids as usize)?,
         })
     }
 

@@ -7,7 +7,7 @@ use tl_edge::Request;
 pub struct StimRequest {
     /// The source port, by its number in the plan.
     pub port: u32,
-    /// The first cycle in which it is offered.
+    /// The first cycle in which it may be offered.
     pub at: u32,
     pub request: Request,
 }
@@ -37,7 +37,7 @@ pub type Stalls = Items<Stall>;
 #[derive(Clone, Copy, Debug, PartialEq, Eq)]
 pub struct Setting {
     pub role: Role,
-    /// How many cycles pass between the one after a request has left and the first offer of its response.
+    /// How many cycles after the one that follows its last beat the response to a request may be offered.
     pub delay: u32,
 }
 
