@@ -1,0 +1,4 @@
+pub mod Paired
+pub mod Switched
+pub mod Chained
+pub mod InTurn

@@ -1,0 +1,4 @@
+pub mod Sides
+pub mod Gates
+pub mod Built
+pub mod Standing
