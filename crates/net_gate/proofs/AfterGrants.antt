@@ -12,7 +12,7 @@ use Rattle.net_choice.specs.declared.rows.Pairing.TheVariants.{Both, Either}
 use Rattle.net_choice.specs.Choice.{grants_of}
 use Rattle.net_choice.specs.Rows.{any_of, behind_of, paired, pairs}
 use Rattle.net_gate.specs.declared.types.Registers.{Registers}
-use Rattle.net_gate.specs.Built.{HasSideShape, IsAfter, IsSideCycle, asked_at, side_at}
+use Rattle.net_gate.specs.Built.{HasSideShape, IsAfter, IsSideCycle, wanted_at, side_at}
 use Rattle.net_gate.specs.Sides.{GateSide, after_grants, grants_in, may_of, picked_rest}
 
 pub grants_tell : (mid new : Built) (round : Bool) (unlocked ready : Wire) (mine wants late ns ls may ms grants : List Wire) → Adds mid new
@@ -88,7 +88,7 @@ cycle_is b0 b1 new round wants ready rests now next unlocked valid grants gs g1 
   granted = λ v s. granted v s;
   some = λ v s. t.at v (g2.later.back v s);
   nexts = λ v s.
-      let x = asked_at v wants ready rests in
+      let x = wanted_at v wants ready rests in
       let is = ap (highs v) e ∙ granted v s in
       let go = t.at v (g2.later.back v s) ∙ ap any_of (granted v s) in
       ap (λ k. side_of k (highs v next.mine) (highs v next.late)) (f.left v s)
@@ -98,7 +98,7 @@ cycle_is b0 b1 new round wants ready rests now next unlocked valid grants gs g1 
       ∙ ap (after_grants round (side_at v now) x (grants_in round (side_at v now) x)) go;
 }
   where
-    granted : (v : ℕ → ℕ) → Solves new v → highs v grants ≡ grants_in round (side_at v now) (asked_at v wants ready rests)
+    granted : (v : ℕ → ℕ) → Solves new v → highs v grants ≡ grants_in round (side_at v now) (wanted_at v wants ready rests)
     granted v s =
         let s1 = g2.later.back v s in
         h.at v s1 ∙ ap (λ c. grants_of round (highs v now.late) (may_of c (highs v now.mine) (highs v wants) (high v ready))) (u.at v (g1.later.back v s1))

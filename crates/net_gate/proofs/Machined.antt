@@ -18,8 +18,8 @@ use Rattle.net_choice.proofs.Chained.{with_room}
 use Rattle.net_choice.proofs.InTurn.{here}
 use Rattle.net_gate.specs.declared.types.Registers.{Registers}
 use Rattle.net_gate.specs.declared.types.Serving.{Serving}
-use Rattle.net_gate.specs.Built.{IsSide, asked_at, side_at}
-use Rattle.net_gate.specs.Gates.{FollowFew, IsGate, RestsAre, Served, Sight, gate_after, gate_machine, may_pass, offer_at, passes, served, served_at, sight_at}
+use Rattle.net_gate.specs.Built.{IsSide, wanted_at, side_at}
+use Rattle.net_gate.specs.Gates.{FollowFew, IsGate, RestsAre, Served, Sight, gate_after, gate_machine, may_pass, offer_at, passes, who_passes, served_at, sight_at}
 use Rattle.net_gate.specs.Sides.{Asked, GateSide, grants_in, idle_side, late_count, may_of, side_after}
 use Rattle.net_gate.specs.Standing.{GrantsGate, StandsFor, beats_left, gate_moved, is_let, let_through}
 use Rattle.net_gate.proofs.Serves.{serving_of, after_same, does_so, offered, served_same}
@@ -62,11 +62,11 @@ module _ (b : Built) (round : Bool) (rest : List ℕ → ℕ) (most : ℕ) (want
     nexts = λ v u gate x q t z h e f. subst (λ (y : Sight). FollowFew rest most gate y → stand r u ((gate_machine round (length wants) rest).after gate y)) e (nexts v u gate q t z h) f;
   })
     where
-      within : (v : ℕ → ℕ) (gate : Gate) → stand r v gate → (i : ℕ) → let_through round (length wants) gate (asked_at v wants ready rests) ≡ Some i → (i < length wants) × (is_let gate (asked_at v wants ready rests) i ≡ true)
-      within v gate h i e = pick_in round gate.next (length wants) i (is_let gate (asked_at v wants ready rests)) (omega (arith, h.next)) e
+      within : (v : ℕ → ℕ) (gate : Gate) → stand r v gate → (i : ℕ) → let_through round (length wants) gate (wanted_at v wants ready rests) ≡ Some i → (i < length wants) × (is_let gate (wanted_at v wants ready rests) i ≡ true)
+      within v gate h i e = pick_in round gate.next (length wants) i (is_let gate (wanted_at v wants ready rests)) (omega (arith, h.next)) e
 
-      law : (v : ℕ → ℕ) (gate : Gate) → stand r v gate → GrantsGate round (length wants) (side_at v r) gate (asked_at v wants ready rests)
-      law v gate h = side_is_gate round (length wants) (side_at v r) gate (asked_at v wants ready rests) (length-map wants (high v)) (length-map rests (λ (w : Wire). v w.number) ∙ lt) h
+      law : (v : ℕ → ℕ) (gate : Gate) → stand r v gate → GrantsGate round (length wants) (side_at v r) gate (wanted_at v wants ready rests)
+      law v gate h = side_is_gate round (length wants) (side_at v r) gate (wanted_at v wants ready rests) (length-map wants (high v)) (length-map rests (λ (w : Wire). v w.number) ∙ lt) h
 
       does : (v : ℕ → ℕ) (gate : Gate) → Solves b v → stand r v gate → served_at s v ≡ (gate_machine round (length wants) rest).does gate (sight_at wants ready rows v)
       does v gate q h =
@@ -76,14 +76,14 @@ module _ (b : Built) (round : Bool) (rest : List ℕ → ℕ) (most : ℕ) (want
       nexts : (v u : ℕ → ℕ) (gate : Gate) → Solves b v → Ticks b v u → (v 0 == 1) ≡ false → stand r v gate → FollowFew rest most gate (sight_at wants ready rows v) → stand r u ((gate_machine round (length wants) rest).after gate (sight_at wants ready rows v))
       nexts v u gate q t z h f =
           let g = law v gate h in
-          let asked = asked_at v wants ready rests in
+          let asked = wanted_at v wants ready rests in
           let o = let_through round (length wants) gate asked in
-          let same : served round (length wants) gate (sight_at wants ready rows v) ≡ o = served_same v round (length wants) gate wants ready rows (wire_values v rests) lr in
+          let same : who_passes round (length wants) gate (sight_at wants ready rows v) ≡ o = served_same v round (length wants) gate wants ready rows (wire_values v rests) lr in
           subst (λ (c : Option ℕ). stand r u (gate_after rest (length wants) gate (sight_at wants ready rows v) c)) (sym same)
           (subst (stand r u) (after_same rest (length wants) gate asked v wants ready rows o (λ i e. follows v gate q h f i e))
           (subst (λ (x : GateSide). StandsFor round (length wants) x (gate_moved (length wants) gate asked o)) (sym (side.nexts v u q t z)) g.stands))
         where
-          follows : (v : ℕ → ℕ) (gate : Gate) → Solves b v → stand r v gate → FollowFew rest most gate (sight_at wants ready rows v) → (i : ℕ) → let_through round (length wants) gate (asked_at v wants ready rests) ≡ Some i → get_or (wire_values v rests) i 0 ≡ rest (unwrap_or (offer_at (sight_at wants ready rows v) i) [])
+          follows : (v : ℕ → ℕ) (gate : Gate) → Solves b v → stand r v gate → FollowFew rest most gate (sight_at wants ready rows v) → (i : ℕ) → let_through round (length wants) gate (wanted_at v wants ready rests) ≡ Some i → get_or (wire_values v rests) i 0 ≡ rest (unwrap_or (offer_at (sight_at wants ready rows v) i) [])
           follows v gate q h f i e =
               let p = within v gate h i e in
               let d : Wire = record { number = 0; width = 0 } in
@@ -196,7 +196,7 @@ module _ (b : Built) (round : Bool) (rest : List ℕ → ℕ) (wants : List Wire
       after v u gate q t z h f =
           let g = law v gate h in
           let o = let_through round (length wants) gate (asked v) in
-          let same : served round (length wants) gate (sight_at wants ready rows v) ≡ o = served_same v round (length wants) gate wants ready rows (zeros (length wants)) lr in
+          let same : who_passes round (length wants) gate (sight_at wants ready rows v) ≡ o = served_same v round (length wants) gate wants ready rows (zeros (length wants)) lr in
           let next = gate_moved (length wants) gate (asked v) o in
           let free : next.lock ≡ None = free_moved (length wants) gate (asked v) o h.0 (zeros_at (length wants)) in
           subst (λ (c : Option ℕ). stood late u (gate_after rest (length wants) gate (sight_at wants ready rows v) c)) (sym same)
@@ -261,7 +261,7 @@ module _ (b : Built) (round : Bool) (rest : List ℕ → ℕ) (most : ℕ) (read
   single_is (w ∷ []) (r ∷ []) s o l g i t = machine_of m (FollowFew rest most) (λ x. x) (λ done. done) sees (served_at s) b lone (record {
     starts = λ v a. (refl, λ l e. absurd (none_some l e));
     does = λ v gate x q z h e f. subst (λ (y : Sight). served_at s v ≡ m.does gate y) e (does v gate q h);
-    nexts = λ v u gate x q k z h e f. subst (λ (y : Sight). lone u (m.after gate y)) e (after v gate (served round 1 gate (sees v)) (chosen v gate h) h);
+    nexts = λ v u gate x q k z h e f. subst (λ (y : Sight). lone u (m.after gate y)) e (after v gate (who_passes round 1 gate (sees v)) (chosen v gate h) h);
   })
     where
       none_some : (l : Lock) → None ≡ Some l → ⊥
@@ -280,7 +280,7 @@ module _ (b : Built) (round : Bool) (rest : List ℕ → ℕ) (most : ℕ) (read
           at true = refl
           at false = refl
 
-      chosen : (v : ℕ → ℕ) (gate : Gate) → lone v gate → served round 1 gate (sees v) ≡ cond (high v w && high v ready) (Some 0) None
+      chosen : (v : ℕ → ℕ) (gate : Gate) → lone v gate → who_passes round 1 gate (sees v) ≡ cond (high v w && high v ready) (Some 0) None
       chosen v gate h = one_pick round gate.next (may_pass gate (sees v)) h.0 ∙ ap (λ (c : Bool). cond c (Some 0) None) (may v gate h)
 
       does : (v : ℕ → ℕ) (gate : Gate) → Solves b v → lone v gate → served_at s v ≡ m.does gate (sees v)

@@ -13,7 +13,7 @@ use Rattle.net_build.specs.Values.{high}
 use Rattle.net_choice.specs.Choice.{one_hot, policy_if}
 use Rattle.net_choice.proofs.InTurn.{here}
 use Rattle.net_gate.specs.declared.types.Serving.{Serving}
-use Rattle.net_gate.specs.Gates.{Served, gate_after, gate_machine, may_pass, offer_at, offers_at, passes, served, served_at, sight_at}
+use Rattle.net_gate.specs.Gates.{Served, gate_after, gate_machine, may_pass, offer_at, offers_at, passes, who_passes, served_at, sight_at}
 use Rattle.net_gate.specs.Sides.{Asked}
 use Rattle.net_gate.specs.Standing.{gate_moved, is_let, let_through}
 use Rattle.net_gate.proofs.Stood.{later_of, same_by_eq}
@@ -56,7 +56,7 @@ find_same p q h [] = refl
 find_same p q h (n ∷ ns) = ap (λ (b : Bool). cond b (Some n) (find p ns)) (h n) ∙ ap (λ (o : Option ℕ). cond (q n) (Some n) o) (find_same p q h ns)
 
 pub served_same : (v : ℕ → ℕ) (round : Bool) (count : ℕ) (gate : Gate) (wants : List Wire) (ready : Wire) (rows : List (List Wire)) (rests : List ℕ) → length rows ≡ length wants
-    → served round count gate (sight_at wants ready rows v) ≡ let_through round count gate (record { wants = highs v wants; room = high v ready; rests = rests })
+    → who_passes round count gate (sight_at wants ready rows v) ≡ let_through round count gate (record { wants = highs v wants; room = high v ready; rests = rests })
 served_same v round count gate wants ready rows rests l = find_same _ _ (λ n. let_same v gate wants ready rows rests n l) (in_turn (policy_if round) gate.next count)
 
 -- ---- what is put

@@ -16,8 +16,8 @@ abbrev pub side_at : (ℕ → ℕ) → Registers → GateSide
 side_at v r = record { left = v r.left.number; mine = highs v r.mine; late = highs v r.late }
 
 -- what it sees where the wires have these values
-abbrev pub asked_at : (ℕ → ℕ) → List Wire → Wire → List Wire → Asked
-asked_at v wants ready rests =
+abbrev pub wanted_at : (ℕ → ℕ) → List Wire → Wire → List Wire → Asked
+wanted_at v wants ready rests =
     record { wants = highs v wants; room = high v ready; rests = wire_values v rests }
 
 -- all its registers
@@ -77,17 +77,17 @@ pub record AreServing (b : Built) (count : ℕ) (widths : List ℕ) (s : Serving
 pub record IsSideCycle (b : Built) (round : Bool) (wants : List Wire) (ready : Wire) (rests : List Wire)
     (now : Registers) (grants : List Wire) (valid : Wire) (next : Registers) : Type 0 where
   pub granted : (v : ℕ → ℕ) → Solves b v
-      → highs v grants ≡ grants_in round (side_at v now) (asked_at v wants ready rests)
+      → highs v grants ≡ grants_in round (side_at v now) (wanted_at v wants ready rests)
   pub some : (v : ℕ → ℕ) → Solves b v → high v valid ≡ any_of (highs v grants)
   pub nexts : (v : ℕ → ℕ) → Solves b v
-      → side_at v next ≡ side_after round (side_at v now) (asked_at v wants ready rests)
+      → side_at v next ≡ side_after round (side_at v now) (wanted_at v wants ready rests)
 
 -- The same with the registers, which begin idle and take the next state in a cycle without a reset.
 pub record IsSide (b : Built) (round : Bool) (count : ℕ) (wants : List Wire) (ready : Wire) (rests : List Wire)
     (r : Registers) (grants : List Wire) (valid : Wire) : Type 0 where
   pub granted : (v : ℕ → ℕ) → Solves b v
-      → highs v grants ≡ grants_in round (side_at v r) (asked_at v wants ready rests)
+      → highs v grants ≡ grants_in round (side_at v r) (wanted_at v wants ready rests)
   pub some : (v : ℕ → ℕ) → Solves b v → high v valid ≡ any_of (highs v grants)
   pub nexts : (v u : ℕ → ℕ) → Solves b v → Ticks b v u → (v 0 == 1) ≡ false
-      → side_at u r ≡ side_after round (side_at v r) (asked_at v wants ready rests)
+      → side_at u r ≡ side_after round (side_at v r) (wanted_at v wants ready rests)
   pub starts : (v : ℕ → ℕ) → AtStart b v → side_at v r ≡ idle_side round count

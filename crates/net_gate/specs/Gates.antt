@@ -37,8 +37,8 @@ abbrev pub may_pass : Gate → Sight → ℕ → Bool
 may_pass gate x who = (is_some (offer_at x who) && passes gate.lock who) && x.room
 
 -- the first in turn that may
-abbrev pub served : Bool → ℕ → Gate → Sight → Option ℕ
-served round count gate x = pick round gate.next count (may_pass gate x)
+abbrev pub who_passes : Bool → ℕ → Gate → Sight → Option ℕ
+who_passes round count gate x = pick round gate.next count (may_pass gate x)
 
 -- the gate after a cycle in which one passed, or none; so many beats follow one with some fields
 abbrev pub gate_after : (List ℕ → ℕ) → ℕ → Gate → Sight → Option ℕ → Gate
@@ -51,10 +51,10 @@ abbrev pub gate_machine : Bool → ℕ → (List ℕ → ℕ) → Machine Gate S
 gate_machine round count rest = record {
   idle = open_gate;
   does = λ gate x. record {
-    grants = one_hot count (served round count gate x);
-    put = option_and_then (offer_at x) (served round count gate x);
+    grants = one_hot count (who_passes round count gate x);
+    put = option_and_then (offer_at x) (who_passes round count gate x);
   };
-  after = λ gate x. gate_after rest count gate x (served round count gate x);
+  after = λ gate x. gate_after rest count gate x (who_passes round count gate x);
 }
 
 -- no more beats than so many follow a head that is offered

@@ -9,7 +9,7 @@ use Rattle.flow_core.specs.declared.locks.Lock.{Lock}
 use Rattle.flow_core.specs.Crossing.{lock_after, passed_by}
 use Rattle.flow_core.specs.Leaves.{LeafState}
 use Rattle.net_choice.specs.Choice.{policy_if}
-use Rattle.net_gate.specs.Gates.{Sight, gate_after, may_pass, offer_at, passes, served}
+use Rattle.net_gate.specs.Gates.{Sight, gate_after, may_pass, offer_at, passes, who_passes}
 use Rattle.net_gate.proofs.Serves.{find_same}
 use Rattle.net_queue.specs.Adapters.{put_by, state_by, with_room}
 use Rattle.net_xbar.specs.Crossings.{put_of, state_through}
@@ -115,14 +115,14 @@ module _ {B : Type 0} (fields : B → List ℕ) (rest : List ℕ → ℕ) (beats
       ap is_some (h who) ∙ act_some room gate.lock gate.next who count beats state (get_or offers who None)
       ∙ ap (λ (c : Bool). (c && passes gate.lock who) && room) (sym (ap is_some (map_at fields offers who) ∙ some_map fields (get_or offers who None)))
 
-  pub first_is : (act : ℕ → Option (Act B LeafState)) (state : Gate → LeafState) → AreActs act state → find (λ who. is_some (act who)) (in_turn (policy_if round) gate.next count) ≡ served round count gate sees
+  pub first_is : (act : ℕ → Option (Act B LeafState)) (state : Gate → LeafState) → AreActs act state → find (λ who. is_some (act who)) (in_turn (policy_if round) gate.next count) ≡ who_passes round count gate sees
   first_is act state h = find_same _ _ (may_same act state h) (in_turn (policy_if round) gate.next count)
 
-  served_may : (who : ℕ) → served round count gate sees ≡ Some who → may_pass gate sees who ≡ true
+  served_may : (who : ℕ) → who_passes round count gate sees ≡ Some who → may_pass gate sees who ≡ true
   served_may who e = find_holds (may_pass gate sees) (in_turn (policy_if round) gate.next count) who e
 
-  pub put_is : (act : ℕ → Option (Act B LeafState)) (state : Gate → LeafState) → AreActs act state → option_map fields (put_of act (served round count gate sees)) ≡ option_and_then (offer_at sees) (served round count gate sees)
-  put_is act state h = at (served round count gate sees) (λ who e. may_same act state h who ∙ served_may who e)
+  pub put_is : (act : ℕ → Option (Act B LeafState)) (state : Gate → LeafState) → AreActs act state → option_map fields (put_of act (who_passes round count gate sees)) ≡ option_and_then (offer_at sees) (who_passes round count gate sees)
+  put_is act state h = at (who_passes round count gate sees) (λ who e. may_same act state h who ∙ served_may who e)
     where
       at : (first : Option ℕ) → ((who : ℕ) → first ≡ Some who → is_some (act who) ≡ true) → option_map fields (put_of act first) ≡ option_and_then (offer_at sees) first
       at None g = refl
@@ -136,8 +136,8 @@ module _ {B : Type 0} (fields : B → List ℕ) (rest : List ℕ → ℕ) (beats
   after_to s state None = s
   after_to s state (Some who) = state (gate_after rest count gate sees (Some who))
 
-  pub state_is : (act : ℕ → Option (Act B LeafState)) (state : Gate → LeafState) (s : LeafState) → ((beat : B) → rest (fields beat) + 1 ≡ beats beat) → AreActs act state → state_through s act (served round count gate sees) ≡ after_to s state (served round count gate sees)
-  state_is act state s r h = at (served round count gate sees) (λ who e. may_same act state h who ∙ served_may who e)
+  pub state_is : (act : ℕ → Option (Act B LeafState)) (state : Gate → LeafState) (s : LeafState) → ((beat : B) → rest (fields beat) + 1 ≡ beats beat) → AreActs act state → state_through s act (who_passes round count gate sees) ≡ after_to s state (who_passes round count gate sees)
+  state_is act state s r h = at (who_passes round count gate sees) (λ who e. may_same act state h who ∙ served_may who e)
     where
       at : (first : Option ℕ) → ((who : ℕ) → first ≡ Some who → is_some (act who) ≡ true) → state_through s act first ≡ after_to s state first
       at None g = refl

@@ -8,7 +8,7 @@ use Rattle.flow_core.specs.Crossing.{Crossbar}
 use Rattle.flow_core.specs.Leaves.{open_gate}
 use Rattle.flow_core.specs.Leaves.LeafState.{XbarState}
 use Rattle.net_choice.specs.Choice.{policy_if}
-use Rattle.net_gate.specs.Gates.{gate_after, offer_at, served}
+use Rattle.net_gate.specs.Gates.{gate_after, offer_at, who_passes}
 use Rattle.net_queue.specs.Leaves.{LeafView}
 use Rattle.net_xbar.specs.Crossings.{act_down, act_up, crossing, first_to_output, first_to_input, put_of}
 use Rattle.net_xbar.specs.Ways.{input_sight, output_sight, rest_a, rest_d}
@@ -32,11 +32,11 @@ gate_in gates input = slice_index_or gates.ins input open_gate
 -- which input an output serves, and which output an input
 abbrev pub served_out : Bool → Crossbar → Gates → LeafView → ℕ → Option ℕ
 served_out round bar gates x output =
-    served round (length bar.ranges) (gate_out gates output) (output_sight bar x output)
+    who_passes round (length bar.ranges) (gate_out gates output) (output_sight bar x output)
 
 abbrev pub served_in : Bool → Crossbar → Gates → LeafView → ℕ → Option ℕ
 served_in round bar gates x input =
-    served round (length bar.slaves) (gate_in gates input) (input_sight bar x input)
+    who_passes round (length bar.slaves) (gate_in gates input) (input_sight bar x input)
 
 -- the gates after a cycle, each by itself
 pub record AreAfter (round : Bool) (bar : Crossbar) (gates : Gates) (x : LeafView) (next : Gates) : Type 0 where

@@ -1,0 +1,9 @@
+pub mod Counted
+pub mod Digits
+pub mod Each
+pub mod InOrder
+pub mod Finding
+pub mod Legality
+pub mod Legally
+pub mod Naming
+pub mod PortsThere

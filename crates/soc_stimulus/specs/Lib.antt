@@ -1,0 +1,15 @@
+pub mod Limits
+pub mod Shape
+pub mod Stated
+pub mod Entries
+pub mod Loads
+pub mod Ports
+pub mod Requests
+pub mod Stalls
+pub mod Settings
+pub mod Lines
+pub mod Reading
+pub mod RulesLaw
+pub mod Stimuli
+pub mod PortsLaw
+pub mod SettingsLaw
