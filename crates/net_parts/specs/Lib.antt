@@ -1,0 +1,3 @@
+pub mod Wired
+pub mod Stands
+pub mod Law

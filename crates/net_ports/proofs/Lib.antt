@@ -1,0 +1,4 @@
+pub mod Formed
+pub mod Told
+pub mod RowSteps
+pub mod Differing

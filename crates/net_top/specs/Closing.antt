@@ -1,0 +1,16 @@
+-- The queues of edges, closed one after another. Only what isn't public cites it.
+use Rattle.std.specs.Prelude.{ℕ, ◌<◌, List}
+use Rattle.tl_edge.specs.declared.plan.Plan.{Plan}
+use Rattle.tl_edge.specs.Plans.{Giver, Taker, GivesTo, TakesFrom}
+use Rattle.net_build.specs.Built.{Built}
+use Rattle.net_queue.specs.declared.types.EdgeWires.{EdgeWires}
+use Rattle.net_queue.specs.declared.types.LeafWires.{LeafWires}
+use Rattle.net_parts.specs.declared.types.EndWires.{EndWires}
+use Rattle.net_parts.specs.Wired.{IsClosedEdge, giver_end, taker_end, wires_of_edge}
+
+-- so many edges of a plan are closed
+pub record AreClosed (b : Built) (plan : Plan) (edges : List EdgeWires) (leaves : List LeafWires)
+    (sources sinks : List EndWires) (count : ℕ) : Type 0 where
+  pub each : (edge : ℕ) (giver : Giver) (taker : Taker) → edge < count → GivesTo plan edge giver
+      → TakesFrom plan edge taker
+      → IsClosedEdge b (wires_of_edge edges edge) (giver_end leaves sources giver) (taker_end leaves sinks taker)
