@@ -16,7 +16,7 @@ CASES = Path("crates/soc_tests")
 
 def examples():
     """Each example with its command and with what is printed, exit status and all."""
-    for design in sorted(EXAMPLES.glob("*.toml")):
+    for design in sorted([*EXAMPLES.glob("*.toml"), *(EXAMPLES / "guide").glob("*.toml")]):
         yield design, "map", f"{design.with_suffix('.map').read_text()}status 0\n"
     for text in sorted(EXAMPLES.glob("*.v")):
         yield text, "read", f"{text.with_suffix('.read').read_text()}status 0\n"
