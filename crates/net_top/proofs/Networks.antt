@@ -46,11 +46,12 @@ use Rattle.net_parts.specs.Law.{WiredLaw}
 use Rattle.net_parts.specs.Stands.{AreCycles, AreMachines, IsCalm, Offer, ShowAll, ShowEach}
 use Rattle.net_parts.specs.Wired.{IsWired, wires_of_edge, wires_of_leaf, wires_of_port}
 use Rattle.net_top.specs.declared.types.Laid.{Laid}
-use Rattle.net_top.specs.declared.types.PortWires.{PortWires}
-use Rattle.net_top.specs.declared.types.Shown.{Shown}
-use Rattle.net_top.specs.Buildable.{IsBuildable, is_buildable}
-use Rattle.net_top.specs.Parts.{machine_at, sink_row, source_row}
-use Rattle.net_top.specs.Showing.{all_shown}
+use Rattle.net_faces.specs.declared.types.PortWires.{PortWires}
+use Rattle.net_faces.specs.declared.types.Shown.{Shown}
+use Rattle.net_leaves.specs.Buildable.{IsBuildable, is_buildable}
+use Rattle.net_faces.specs.PortRows.{sink_row, source_row}
+use Rattle.net_leaves.specs.LeafWiring.{machine_at}
+use Rattle.net_faces.specs.Showing.{all_shown}
 use Rattle.net_top.specs.Whole.{IsWhole, wiring}
 use Rattle.net_top.proofs.Offering.{sink_values_long, sinks_told, source_values_long, sources_told, values_all, values_back, values_behind, values_front}
 use Rattle.net_top.proofs.Sights.{rows_shown, rows_values, sink_sight, source_sight}

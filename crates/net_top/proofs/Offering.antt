@@ -17,7 +17,7 @@ use Rattle.net_ports.specs.Rows.{values_from}
 use Rattle.net_parts.specs.declared.types.EndWires.{EndWires}
 use Rattle.net_parts.specs.Stands.{down_fields, up_fields}
 use Rattle.net_parts.specs.Wired.{wires_of_port}
-use Rattle.net_top.specs.Parts.{sink_row, source_row}
+use Rattle.net_faces.specs.PortRows.{sink_row, source_row}
 
 -- ---- lists in two parts
 

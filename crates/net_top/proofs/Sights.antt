@@ -27,7 +27,7 @@ use Rattle.net_ports.specs.Rows.{shown_outputs}
 use Rattle.net_parts.specs.Stands.{ShowAll, down_fields, up_fields}
 use Rattle.net_parts.specs.Wired.{Wiring, wires_of_edge}
 use Rattle.net_parts.proofs.Shown.{head_shown, room_shown}
-use Rattle.net_top.specs.Showing.{ShowsSink, ShowsSource, all_shown, head_values}
+use Rattle.net_faces.specs.Showing.{ShowsSink, ShowsSource, all_shown, head_values}
 
 bit_of : (n : ℕ) (flag : Bool) → n < 2 → (n == 1) ≡ flag → n ≡ from_bool flag
 bit_of zero true l e = absurd (let x : false ≡ true = e in cc)

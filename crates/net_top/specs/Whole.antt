@@ -6,11 +6,13 @@ use Rattle.net_ports.specs.Ports.{port_inputs, reset_input, sink_outputs, source
 use Rattle.net_ports.specs.Rows.{AreRead}
 use Rattle.net_parts.specs.Wired.{Wiring, wires_of_edge}
 use Rattle.net_top.specs.declared.types.Laid.{Laid}
-use Rattle.net_top.specs.declared.types.PortWires.{PortWires}
-use Rattle.net_top.specs.declared.types.Shown.{Shown}
-use Rattle.net_top.specs.Closing.{AreClosed}
-use Rattle.net_top.specs.Parts.{AreLeavesInWires, AreOfferEnds, AreSinkEnds, AreSourceEnds, sink_row, sink_widths, source_row, source_widths}
-use Rattle.net_top.specs.Showing.{AreSinkRows, AreSourceRows, all_shown}
+use Rattle.net_faces.specs.declared.types.PortWires.{PortWires}
+use Rattle.net_faces.specs.declared.types.Shown.{Shown}
+use Rattle.net_joins.specs.Closing.{AreClosed}
+use Rattle.net_ends.specs.Ends.{AreOfferEnds, AreSinkEnds, AreSourceEnds, sink_widths, source_widths}
+use Rattle.net_faces.specs.PortRows.{sink_row, source_row}
+use Rattle.net_leaves.specs.LeafWiring.{AreLeavesInWires}
+use Rattle.net_faces.specs.Showing.{AreSinkRows, AreSourceRows, all_shown}
 
 -- all wires, for what is said of them together
 abbrev pub wiring : PortWires → Laid → Wiring

@@ -7,9 +7,9 @@ use Rattle.net_build.specs.Built.{Built}
 use Rattle.net_build.specs.Numbering.{KeepsValues, finished}
 use Rattle.net_ports.specs.Implementing.{Implements}
 use Rattle.net_top.specs.declared.types.Laid.{Laid}
-use Rattle.net_top.specs.declared.types.PortWires.{PortWires}
-use Rattle.net_top.specs.declared.types.Shown.{Shown}
-use Rattle.net_top.specs.Buildable.{IsBuildable}
+use Rattle.net_faces.specs.declared.types.PortWires.{PortWires}
+use Rattle.net_faces.specs.declared.types.Shown.{Shown}
+use Rattle.net_leaves.specs.Buildable.{IsBuildable}
 use Rattle.net_top.specs.Whole.{IsWhole}
 
 -- a finished netlist in which each wire keeps its value implements the plan of its wires

@@ -1,5 +1,5 @@
 ghost use Rattle.std.specs.Prelude.{◌≡◌};
-ghost use Rattle.net_top.specs.Buildable as spec;
+ghost use Rattle.net_leaves.specs.Buildable as spec;
 
 use tl_params::Template;
 

@@ -1,4 +1,4 @@
--- What the outputs of a netlist show of its queues. Only what isn't public cites it.
+-- What the outputs of a netlist show of its queues. Only what isn't public beyond this repository's netlists cites it.
 use Rattle.std.specs.Prelude.{◌≡◌, ℕ, ◌<◌, List, [], ◌∷◌, ◌++◌, get_or, length, Some, slice_get}
 use Rattle.tl_edge.specs.declared.plan.PlanEdge.{PlanEdge}
 use Rattle.tl_edge.specs.declared.plan.PlanPort.{PlanPort}
@@ -14,7 +14,7 @@ use Rattle.net_build.specs.Registers.{AreWires}
 use Rattle.net_build.specs.Values.{Solves, high}
 use Rattle.net_queue.specs.declared.types.EdgeWires.{EdgeWires}
 use Rattle.net_queue.specs.declared.types.Queue.{Queue}
-use Rattle.net_ports.specs.Rows.{shown_outputs}
+use Rattle.net_ports.specs.Rows.{shown_outputs, widths_of_ports}
 use Rattle.net_parts.specs.Wired.{wires_of_edge}
 
 -- the values of a queue's head: whether there is one, and its fields, all 0 where there is none
@@ -44,6 +44,14 @@ abbrev pub all_shown : (PlanPort → List Port) → List PlanPort → List (List
 all_shown ports [] rows = []
 all_shown ports (at ∷ all) [] = []
 all_shown ports (at ∷ all) (row ∷ rows) = shown_outputs (ports at) row ++ all_shown ports all rows
+
+-- rows of wires that outputs of some ports can show
+pub record AreRowsOf (b : Built) (ports : PlanPort → List Port) (all : List PlanPort) (rows : List (List Wire))
+    : Type 0 where
+  pub long : length rows ≡ length all
+  pub each : (port : ℕ) (at : PlanPort) → slice_get all port ≡ Some at
+      → (length (get_or rows port []) ≡ length (ports at))
+      × AreWires b (widths_of_ports (ports at)) (get_or rows port [])
 
 -- a row for each source port
 pub record AreSourceRows (b : Built) (plan : Plan) (edges : List EdgeWires) (rows : List (List Wire)) : Type 0 where

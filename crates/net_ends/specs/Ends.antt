@@ -1,31 +1,16 @@
--- The parts of a netlist as they are made. Only what isn't public cites it.
-use Rattle.std.specs.Prelude.{◌≡◌, ℕ, ◌<◌, List, [], ◌∷◌, ◌++◌, length, Some, slice_get}
+-- What ports offer in wires, and what of it passes.
+use Rattle.std.specs.Prelude.{◌≡◌, ℕ, List, length, Some, slice_get}
 use Rattle.tl_edge.specs.declared.plan.PlanPort.{PlanPort}
 use Rattle.tl_edge.specs.declared.plan.Plan.{Plan}
 use Rattle.tl_edge.specs.Plans.{edge_at}
 use Rattle.tl_edge.specs.Wires.{a_widths, d_widths}
-use Rattle.flow_core.specs.Leaves.{LeafState}
-use Rattle.net_build.specs.declared.types.Wire.{Wire}
 use Rattle.net_build.specs.Built.{Built, IsBit}
 use Rattle.net_build.specs.Registers.{AreWires}
 use Rattle.net_queue.specs.declared.types.EdgeWires.{EdgeWires}
-use Rattle.net_queue.specs.declared.types.LeafWires.{LeafWires}
 use Rattle.net_queue.specs.declared.types.Queue.{Queue}
-use Rattle.net_queue.specs.Leaves.{AreWiresOf, DoneFitsAt, IsLeaf, IsPutInto, LeafDone, LeafView, ins_at, outs_at}
-use Rattle.net_queue.specs.Machines.{Machine}
-use Rattle.net_buffer.specs.Buffers.{buffer_machine}
+use Rattle.net_queue.specs.Leaves.{IsPutInto}
 use Rattle.net_parts.specs.declared.types.EndWires.{EndWires}
-use Rattle.net_parts.specs.Wired.{IsPortEnd, wires_of_edge, wires_of_edges, wires_of_leaf, wires_of_port}
-
--- ---- ports
-
--- the wires of a source port, in the order of its inputs
-abbrev pub source_row : EndWires → List Wire
-source_row port = port.put.valid ∷ port.put.items ++ port.take ∷ []
-
--- the wires of a sink port, in the order of its inputs
-abbrev pub sink_row : EndWires → List Wire
-sink_row port = port.take ∷ port.put.valid ∷ port.put.items
+use Rattle.net_parts.specs.Wired.{IsPortEnd, wires_of_edge, wires_of_port}
 
 -- what a port offers, in items with fields of these widths, and whether it takes
 pub record IsEnd (b : Built) (widths : List ℕ) (port : EndWires) : Type 0 where
@@ -69,21 +54,3 @@ pub record AreSinkEnds (b : Built) (ports : List PlanPort) (edges : List EdgeWir
   pub each : (port : ℕ) (at : PlanPort) → slice_get ports port ≡ Some at
       → IsGated b (wires_of_edge edges at.edge).d (wires_of_edge edges at.edge).a (wires_of_port offered port)
       (wires_of_port gated port)
-
--- ---- leaves
-
--- the machine of a leaf: only buffers are built
-abbrev pub machine_at : ℕ → Machine LeafState LeafView LeafDone
-machine_at leaf = buffer_machine
-
--- the wires of a leaf are its machine, between the queues of its edges
-pub record IsLeafInWires (b : Built) (plan : Plan) (edges : List EdgeWires) (leaf : ℕ) (wires : LeafWires)
-    : Type 0 where
-  pub shaped : AreWiresOf b (wires_of_edges edges (ins_at plan leaf)) (wires_of_edges edges (outs_at plan leaf)) wires
-  pub machine : IsLeaf b (wires_of_edges edges (ins_at plan leaf)) (wires_of_edges edges (outs_at plan leaf)) wires
-      (machine_at leaf) (DoneFitsAt plan leaf (machine_at leaf))
-
--- so many leaves of a plan are built
-pub record AreLeavesInWires (b : Built) (plan : Plan) (edges : List EdgeWires) (count : ℕ) (leaves : List LeafWires)
-    : Type 0 where
-  pub each : (leaf : ℕ) → leaf < count → IsLeafInWires b plan edges leaf (wires_of_leaf leaves leaf)

@@ -1,0 +1,3 @@
+//! What passes at the ports of a netlist: what they offer goes into a queue where there is room, and they take
+//! where there is a head.
+#![tactic(auto)]

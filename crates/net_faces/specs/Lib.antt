@@ -1,0 +1,2 @@
+pub mod PortRows
+pub mod Showing

@@ -1,0 +1,2 @@
+//! The queues of edges, closed between what gives to them and what takes from them.
+#![tactic(auto)]
