@@ -1,2 +1,6 @@
 //! The queues of edges, closed between what gives to them and what takes from them.
 #![tactic(auto)]
+
+mod closing;
+
+pub use closing::close_edges;

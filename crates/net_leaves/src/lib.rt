@@ -2,5 +2,9 @@
 #![tactic(auto)]
 
 mod buildable;
+mod edges;
+mod leaves;
 
 pub use buildable::is_buildable;
+pub use edges::open_edges;
+pub use leaves::build_leaves;

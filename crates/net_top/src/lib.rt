@@ -4,6 +4,8 @@
 
 mod laws;
 mod types;
+mod whole;
 
 pub use laws::whole_law;
 pub use types::Laid;
+pub use whole::build;
