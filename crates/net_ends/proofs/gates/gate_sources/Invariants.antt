@@ -1,0 +1,10 @@
+use Rattle.net_build.specs.Values.{Adds}
+use Rattle.net_queue.specs.declared.types.EdgeWires.{EdgeWires}
+use Rattle.net_ends.proofs.Gated.{AreGated}
+use Rattle.net_ends.proofs.gates.gate_sources.Given as goal
+
+abbrev pub invariant-loop-port : goal.invariant-loop-port
+invariant-loop-port l = record {
+  adds : Adds l.fn.builder l.builder;
+  gated : AreGated l.builder (λ (edge : EdgeWires). edge.a) (λ (edge : EdgeWires). edge.d) l.plan.sources l.edges l.offered l.ends l.port;
+}
