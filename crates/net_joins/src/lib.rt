@@ -2,5 +2,6 @@
 #![tactic(auto)]
 
 mod closing;
+mod ends;
 
 pub use closing::close_edges;

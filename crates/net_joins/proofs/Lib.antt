@@ -1,0 +1,5 @@
+pub mod Later
+pub mod Fronts
+pub mod Reopened
+pub mod Found
+pub mod Closed
