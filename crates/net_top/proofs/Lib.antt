@@ -1,3 +1,4 @@
 pub mod Offering
 pub mod Sights
 pub mod Networks
+pub mod Composed

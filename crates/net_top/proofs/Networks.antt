@@ -1,19 +1,17 @@
 -- A whole builder's netlist is the network of its plan.
-use Rattle.std.proofs.Common.{◌≡◌, ℕ, zero, suc, ◌+◌, ◌<◌, ◌==◌, Bool, true, false, List, [], ◌∷◌, ◌++◌, length, map, flat_map, get_or, Option, Some, None, refl, sym, ap, ◌∙◌, subst, arith, slice_get}
-use Rattle.std.specs.Prelude.{All, IsTrue, codes, slice_index}
-use Rattle.std.specs.Option.{option_map, option_map_or}
-use Rattle.std.proofs.lemmas.List.{append_assoc, length-map, map-append}
+use Rattle.std.proofs.Common.{◌≡◌, ℕ, zero, suc, ◌+◌, ◌<◌, ◌==◌, true, false, List, [], ◌∷◌, ◌++◌, length, map, flat_map, get_or, Option, Some, None, refl, sym, ap, ◌∙◌, subst, arith, slice_get}
+use Rattle.std.specs.Option.{option_map_or}
+use Rattle.std.proofs.lemmas.List.{map-append}
 use Rattle.std.proofs.lemmas.Option.{slice_get_within, get_or_from_slice_get}
 use Rattle.tl_params.specs.declared.ops.Template.{Template}
 use Rattle.tl_params.specs.declared.ops.Template.TheVariants.{Buffer, Width, Fragmenter, Shrinker, Xbar}
 use Rattle.tl_edge.specs.declared.plan.Leaf.{Leaf}
 use Rattle.tl_edge.specs.declared.plan.Plan.{Plan}
 use Rattle.tl_edge.specs.declared.plan.PlanPort.{PlanPort}
-use Rattle.tl_edge.specs.Plans.{edge_at, GivesTo, TakesFrom}
+use Rattle.tl_edge.specs.Plans.{edge_at}
 use Rattle.tl_edge.specs.Plans.Giver.{Source}
 use Rattle.tl_edge.specs.Plans.Taker.{Sink}
 use Rattle.tl_edge.specs.SoundPlans.{IsSound}
-use Rattle.tl_edge.specs.Wires.{a_widths, d_widths}
 use Rattle.tl_edge.proofs.Ways.{ends_law}
 use Rattle.flow_core.specs.Leaves.{LeafState, leaf_at_start}
 use Rattle.flow_core.specs.Leaves.LeafState.{BufferState, XbarState, ShrinkerState, WidthState, FragmenterState}
@@ -21,30 +19,27 @@ use Rattle.flow_core.specs.Network.{State, held_at_start, network_at_start}
 use Rattle.flow_core.specs.Tags.{Held}
 use Rattle.flow_core.specs.Turns.{leaf_state, next_id}
 use Rattle.flow_choice.specs.declared.offers.Offers.{Offers}
-use Rattle.flow_choice.specs.Choosing.{flag_at, state_after_cycle}
-use Rattle.flow_choice.specs.Valid.{AreOfOne, IsValid}
+use Rattle.flow_choice.specs.Choosing.{state_after_cycle}
+use Rattle.flow_choice.specs.Valid.{AreOfOne}
 use Rattle.net_cells.specs.declared.netlist.Netlist.{Netlist}
 use Rattle.net_cells.specs.declared.netlist.OutPort.{OutPort}
 use Rattle.net_cells.specs.declared.netlist.Port.{Port}
-use Rattle.net_cells.specs.Rules.{HasWidth, width_at, widths}
+use Rattle.net_cells.specs.Rules.{width_at, widths}
 use Rattle.net_cells.specs.Values.{AreValues, IsRun, IsRunFrom, first_registers, next_registers}
 use Rattle.net_build.specs.declared.types.Wire.{Wire}
 use Rattle.net_build.specs.Bits.{wire_values}
-use Rattle.net_build.specs.Built.{Built, IsWire, inputs, wire_widths}
+use Rattle.net_build.specs.Built.{Built, IsWire}
 use Rattle.net_build.specs.Numbering.{KeepsValues, at_wires, finished, net_of, out_of}
 use Rattle.net_build.specs.Registers.{AreWires}
-use Rattle.net_build.specs.Values.{AtStart, HasInputs, Solves, Ticks}
+use Rattle.net_build.specs.Values.{HasInputs, Solves}
 use Rattle.net_build.proofs.Nets.{keeps_widths}
-use Rattle.net_queue.specs.Leaves.{IsOfTemplate, LeafDone, LeafView}
-use Rattle.net_buffer.specs.Buffers.{buffer_machine}
 use Rattle.net_ports.specs.Implementing.{AreOffered, AreOffersAt, Implements, input_values, shown_values, outputs_by_cycle, outputs_of, sink_shows, sink_values, source_shows, source_values}
-use Rattle.net_ports.specs.Ports.{HasPorts, port_outputs, request_row, response_row, shown_port, sink_outputs, source_outputs}
+use Rattle.net_ports.specs.Ports.{HasPorts, shown_port, sink_outputs, source_outputs}
 use Rattle.net_ports.specs.Rows.{values_from, widths_of_ports}
 use Rattle.net_cycle.specs.Laws.{BufferAtLaw}
-use Rattle.net_parts.specs.declared.types.EndWires.{EndWires}
 use Rattle.net_parts.specs.Law.{WiredLaw}
 use Rattle.net_parts.specs.Stands.{AreCycles, AreMachines, IsCalm, Offer, ShowAll, ShowEach}
-use Rattle.net_parts.specs.Wired.{IsWired, wires_of_edge, wires_of_leaf, wires_of_port}
+use Rattle.net_parts.specs.Wired.{IsWired, wires_of_port}
 use Rattle.net_top.specs.declared.types.Laid.{Laid}
 use Rattle.net_faces.specs.declared.types.PortWires.{PortWires}
 use Rattle.net_faces.specs.declared.types.Shown.{Shown}

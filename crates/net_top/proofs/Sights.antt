@@ -1,28 +1,24 @@
 -- What rows of outputs show of a state of the network.
-use Rattle.std.proofs.Common.{◌≡◌, ℕ, zero, suc, ◌+◌, ◌<◌, ◌^◌, ◌==◌, Bool, true, false, cond, List, [], ◌∷◌, ◌++◌, length, map, flat_map, get_or, Option, Some, None, refl, sym, ap, ◌∙◌, subst, arith, slice_get}
+use Rattle.std.proofs.Common.{◌≡◌, ℕ, zero, suc, ◌<◌, ◌^◌, ◌==◌, Bool, true, false, cond, List, [], ◌∷◌, ◌++◌, length, map, flat_map, get_or, Option, Some, None, refl, sym, ap, ◌∙◌, subst, arith, slice_get}
 use Rattle.std.specs.Int.{from_bool}
-use Rattle.std.specs.Option.{option_map}
-use Rattle.std.proofs.lemmas.List.{append_assoc, get_or-map, length-map, map-append}
+use Rattle.std.proofs.lemmas.List.{get_or-map, map-append}
 use Rattle.tl_edge.specs.declared.beat.ABeat.{ABeat}
 use Rattle.tl_edge.specs.declared.beat.Tag.{Tag}
 use Rattle.tl_edge.specs.declared.plan.PlanEdge.{PlanEdge}
 use Rattle.tl_edge.specs.declared.plan.PlanPort.{PlanPort}
 use Rattle.tl_edge.specs.declared.plan.Plan.{Plan}
-use Rattle.tl_edge.specs.Plans.{edge_at}
 use Rattle.tl_edge.specs.Wires.{a_widths, d_widths}
 use Rattle.flow_core.specs.Network.{State}
 use Rattle.flow_core.specs.Queues.{queue, head_in, has_place}
 use Rattle.net_cells.specs.declared.netlist.OutPort.{OutPort}
 use Rattle.net_cells.specs.declared.netlist.Port.{Port}
 use Rattle.net_build.specs.declared.types.Wire.{Wire}
-use Rattle.net_build.specs.Bits.{row_picked, wire_values, zeros}
-use Rattle.net_build.specs.Built.{Built, IsWire}
+use Rattle.net_build.specs.Bits.{row_picked, wire_values}
+use Rattle.net_build.specs.Built.{Built}
 use Rattle.net_build.specs.Registers.{AreWires}
 use Rattle.net_build.specs.Values.{Solves, high}
-use Rattle.net_queue.specs.declared.types.EdgeWires.{EdgeWires}
-use Rattle.net_queue.specs.declared.types.Queue.{Queue}
-use Rattle.net_queue.specs.Queues.{Shown, shown_at, shown_of}
-use Rattle.net_ports.specs.Implementing.{beat_values, request_values, response_values, sink_shows, source_shows}
+use Rattle.net_queue.specs.Queues.{shown_at}
+use Rattle.net_ports.specs.Implementing.{beat_values, request_values, sink_shows, source_shows}
 use Rattle.net_ports.specs.Rows.{shown_outputs}
 use Rattle.net_parts.specs.Stands.{ShowAll, down_fields, up_fields}
 use Rattle.net_parts.specs.Wired.{Wiring, wires_of_edge}
