@@ -1,0 +1,80 @@
+#!/usr/bin/env python3
+"""Times `soc verilog` on chains of buffers, and counts what an edge and a buffer cost.
+
+    bench/verilog.py [RUNS]
+
+One design has a source and a sink of 64 ports each, 63 bound directly and one through 250 buffers. The other has 4 ports,
+all through 250 buffers, which is nearly the most edges that a design may have. Times are processor seconds of the
+program, the least of some runs. Registers and cells of one edge more, and of one buffer more, are differences between
+short chains.
+"""
+
+import os
+import resource
+import subprocess
+import sys
+import tempfile
+from pathlib import Path
+
+TOP = Path(__file__).resolve().parent.parent
+BUFFERS = 250
+
+
+def node(name, kind, *lines):
+    return ["[[node]]", f'name = "{name}"', f'kind = "{kind}"', *lines]
+
+
+def bind(to, source):
+    return ["[[bind]]", f'to = "{to}"', f'from = "{source}"']
+
+
+def chain(ports, through, buffers, beat=8):
+    """A source and a sink with so many ports, of which `through` are bound through so many buffers."""
+    lines = ["version = 1", 'name = "chain"']
+    lines += node("core", "source", f"ports = {ports}", "ids = 4", "emits = { get = [1, 64], put_full = [1, 64] }")
+    for n in range(buffers):
+        lines += node(f"stage{n}", "buffer")
+    sets = ", ".join(f"[[0x{n << 12:x}, 0xfff]]" for n in range(ports))
+    lines += node("ram", "sink", f"beat = {beat}", f"addresses = [{sets}]", "supports = { get = [1, 64], put_full = [1, 64] }")
+    names = ["core", *(f"stage{n}" for n in range(buffers)), "ram"]
+    for _ in range(ports - through):
+        lines += bind("ram", "core")
+    for source, to in zip(names, names[1:]):
+        for _ in range(through):
+            lines += bind(to, source)
+    return "\n".join(lines) + "\n"
+
+
+def run(folder, name, text, runs):
+    """Processor seconds, the size of the saved text, and the line that was printed."""
+    design, saved = Path(folder) / f"{name}.toml", Path(folder) / f"{name}.v"
+    design.write_text(text)
+    least, line = None, ""
+    for _ in range(runs):
+        before = resource.getrusage(resource.RUSAGE_CHILDREN)
+        line = subprocess.run([TOP / "soc", "verilog", design, saved], stdout=subprocess.PIPE, check=True).stdout.decode().strip()
+        after = resource.getrusage(resource.RUSAGE_CHILDREN)
+        took = after.ru_utime + after.ru_stime - before.ru_utime - before.ru_stime
+        least = took if least is None else min(least, took)
+    return least, os.path.getsize(saved), line
+
+
+def counted(line):
+    words = line.split()
+    return {word: int(words[at + 1]) for at, word in enumerate(words) if word in ("registers", "cells")}
+
+
+def main():
+    runs = int(sys.argv[1]) if len(sys.argv) > 1 else 5
+    with tempfile.TemporaryDirectory() as folder:
+        for name, ports, through in (("ports", 64, 1), ("edges", 4, 4)):
+            took, size, line = run(folder, name, chain(ports, through, BUFFERS), runs)
+            print(f"{ports:>3} ports, {through} through {BUFFERS} buffers: {took:6.2f} s, {size / 1e6:.1f} MB: {line}")
+        for beat in (4, 8):
+            some = [counted(run(folder, "short", chain(1, 1, buffers, beat), 1)[2]) for buffers in (0, 1, 2)]
+            for word in ("registers", "cells"):
+                print(f"beat {beat}: {word} with 0, 1, 2 buffers: {', '.join(str(it[word]) for it in some)}")
+
+
+if __name__ == "__main__":
+    main()
