@@ -1,2 +1,3 @@
 pub mod PortRows
 pub mod Showing
+pub mod Steps

@@ -1,8 +1,13 @@
 //! The ports of a whole netlist: its inputs, what its outputs show of the queues, and the outputs.
 #![tactic(auto)]
 
-mod faces;
+mod inputs;
+mod outputs;
+mod ports;
+mod reads;
 mod types;
 
-pub use faces::{open_ports, read_ports, show_ports};
+pub use inputs::open_ports;
+pub use outputs::show_ports;
+pub use reads::read_ports;
 pub use types::{PortWires, Shown};

@@ -1,0 +1,4 @@
+pub mod Later
+pub mod Naming
+pub mod PortSteps
+pub mod Heads
