@@ -8,8 +8,8 @@ use Rattle.tl_edge.specs.declared.plan.Plan.{Plan}
 use Rattle.tl_edge.specs.Plans.{edge_at}
 use Rattle.tl_edge.specs.Wires.{a_widths, d_widths}
 use Rattle.net_build.specs.declared.types.Wire.{Wire}
-use Rattle.net_build.specs.Bits.{AreBits, AreRows, MeansAll, highs, row_picked, wire_values}
-use Rattle.net_build.specs.Built.{Built, IsBit, IsWire}
+use Rattle.net_build.specs.Bits.{MeansAll, highs, row_picked, wire_values}
+use Rattle.net_build.specs.Built.{Built, IsWire}
 use Rattle.net_build.specs.Registers.{AreWires}
 use Rattle.net_build.specs.Values.{Adds}
 use Rattle.net_build.proofs.OpenedLists.{later_same, widths_more}
@@ -17,7 +17,6 @@ use Rattle.net_build.proofs.Steps.{bit_adds}
 use Rattle.net_queue.specs.declared.types.EdgeWires.{EdgeWires}
 use Rattle.net_queue.specs.declared.types.Queue.{Queue}
 use Rattle.net_queue.specs.Leaves.{IsEdge}
-use Rattle.net_queue.specs.Queues.{IsOpen}
 use Rattle.net_queue.specs.Rows.{row_widths}
 use Rattle.net_queue.proofs.Opening.{open_adds}
 use Rattle.net_parts.specs.Wired.{no_edge_wires, wires_of_edge}
@@ -35,30 +34,6 @@ wires_cons b n widths w ws h e g = record { each = λ k d m. at k d m }
     at : (k : ℕ) (d : Wire) → k < length (w ∷ ws) → IsWire b (get_or (w ∷ ws) k d) × ((get_or (w ∷ ws) k d).width ≡ get_or (n ∷ widths) k 0)
     at zero d m = (h, e)
     at (suc k) d m = g.each k d (omega (arith, m))
-
-pub valid_picks : (b : Built) (queue : Queue) (picks : List Wire) → IsOpen b queue → picks ≡ queue.valid ∷ [] → AreBits b picks
-valid_picks b queue picks o e = subst (AreBits b) (sym e) (record { each = λ k d m. at k d m })
-  where
-    at : (k : ℕ) (d : Wire) → k < length (queue.valid ∷ []) → IsBit b (get_or (queue.valid ∷ []) k d)
-    at zero d m = o.valid
-    at (suc k) d m = absurd (omega (arith, m))
-
-pub head_rows : (b : Built) (queue : Queue) (widths : List ℕ) (rows : List (List Wire)) → IsOpen b queue → row_widths queue.head ≡ widths → rows ≡ queue.head ∷ [] → AreRows b widths rows
-head_rows b queue widths rows o w e = subst (AreRows b widths) (sym e) (record { long = λ k d m. long k d m; wires = λ k d m. wires k d m })
-  where
-    long : (k : ℕ) (d : List Wire) → k < length (queue.head ∷ []) → length (get_or (queue.head ∷ []) k d) ≡ length widths
-    long zero d m = sym (length-map queue.head (λ (x : Wire). x.width)) ∙ ap length w
-    long (suc k) d m = absurd (omega (arith, m))
-
-    wires : (k : ℕ) (d : List Wire) → k < length (queue.head ∷ []) → AreWires b widths (get_or (queue.head ∷ []) k d)
-    wires zero d m = subst (λ (ns : List ℕ). AreWires b ns queue.head) w o.alike.one
-    wires (suc k) d m = absurd (omega (arith, m))
-
-pub one_row : (queue : Queue) (picks : List Wire) (rows : List (List Wire)) → picks ≡ queue.valid ∷ [] → rows ≡ queue.head ∷ [] → length rows ≡ length picks
-one_row queue picks rows p r = ap length r ∙ sym (ap length p)
-
-pub one_pick : (queue : Queue) (picks : List Wire) → picks ≡ queue.valid ∷ [] → 0 < length picks
-one_pick queue picks p = let e : length picks ≡ 1 = ap length p in omega (arith, e)
 
 pub head_shown : (b : Built) (queue : Queue) (widths : List ℕ) (picks : List Wire) (rows : List (List Wire)) (fields : List Wire) → picks ≡ queue.valid ∷ [] → rows ≡ queue.head ∷ [] → row_widths queue.head ≡ widths
     → MeansAll b fields (λ v. row_picked (length widths) (highs v picks) (map (wire_values v) rows)) → ShowsHead b queue (queue.valid ∷ fields)

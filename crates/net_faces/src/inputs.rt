@@ -1,4 +1,4 @@
-ghost use Rattle.std.specs.Prelude.{◌≡◌, ◌∷◌, ◌++◌, ◌+◌, [], IfOk, flat_map, length};
+ghost use Rattle.std.specs.Prelude.{◌≡◌, ◌∷◌, ◌+◌, [], IfOk, flat_map, length};
 ghost use Rattle.tl_edge.specs.SoundPlans.{IsSound};
 ghost use Rattle.net_build.specs.Built.{inputs};
 ghost use Rattle.net_ports.specs.Ports.{port_inputs, reset_input, sink_inputs, source_inputs};

@@ -12,7 +12,7 @@ use std::alloc::Global;
 use tl_edge::{Plan, PlanEdge, PlanPort};
 
 /// The edge with a number.
-pub fn edge_at<'a>(plan: &'a Plan, edge: u32) -> &'a PlanEdge
+pub fn edge_at(plan: &Plan, edge: u32) -> &PlanEdge
     requires { edge < length plan.now.edges }
     ensures { result.now ≡ spec.edge_at plan.now edge }
 {

@@ -1,6 +1,5 @@
-ghost use Rattle.std.specs.Prelude.{◌≡◌, ◌∷◌, ◌++◌, ◌+◌, [], IfOk, length};
+ghost use Rattle.std.specs.Prelude.{◌≡◌, ◌∷◌, ◌+◌, IfOk, length};
 ghost use Rattle.tl_edge.specs.SoundPlans.{IsSound, IsSoundEdge};
-ghost use Rattle.tl_edge.specs.Wires as wide;
 ghost use Rattle.net_build.specs.Registers.{AreWires};
 ghost use Rattle.net_build.specs.Values.{Adds};
 ghost use Rattle.net_queue.specs.Leaves.{IsEdge};
