@@ -15,13 +15,15 @@ use Rattle.net_cycle.specs.Ends.{AreOfEnds, AreOfLeaves, ArePortsMoves}
 use Rattle.net_cycle.specs.Flows.{AreAtOnce}
 use Rattle.net_cycle.specs.Parts.{IsMachineAt}
 
--- so it is in every locally valid state of a sound plan, whatever the ports offer
+-- with these offers the moves that are chosen in a state are a cycle of its parts: the queues move as if at once, at an
+-- edge its two ends alone count, ports put and take what is stated, and each leaf is as after its own moves
 pub record IsCycleOfParts (plan : Plan) (state : State) (offers : Offers) : Type 0 where
   pub queues : AreAtOnce state (chosen_moves state offers)
   pub ends : AreOfEnds plan state offers
   pub ports : ArePortsMoves plan state offers
   pub leaves : AreOfLeaves state offers
 
+-- so it is in every locally valid state of a sound plan, whatever the ports offer
 abbrev pub PartsLaw : Type 0
 PartsLaw =
     (plan : Plan) (state : State) (offers : Offers) → IsSound plan → IsValid plan state

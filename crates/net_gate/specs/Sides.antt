@@ -28,7 +28,7 @@ may_of unlocked mine wants room =
 abbrev pub grants_in : Bool → GateSide → Asked → List Bool
 grants_in round s x = grants_of round s.late (may_of (s.left == 0) s.mine x.wants x.room)
 
--- the number that is picked_rest first, or 0
+-- the number at the place of the first pick that is true, 0 where none is
 abbrev pub picked_rest : List Bool → List ℕ → ℕ
 picked_rest [] xs = 0
 picked_rest (pick ∷ picks) [] = 0

@@ -18,7 +18,7 @@ pub record IsTable (b : Built) (count width : ℕ) (ws : List Wire) : Type 0 whe
   pub undriven : AreUndriven b ws
   pub distinct : AreDistinct ws
 
--- the entries after the one at an index is entries_written, or none
+-- the entries after a cycle in which the one at an index is written, or none
 abbrev pub entries_written : Bool → ℕ → ℕ → List ℕ → List ℕ
 entries_written write index item entries = if write then set entries index item else entries
 
