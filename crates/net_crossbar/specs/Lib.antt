@@ -1,0 +1,9 @@
+pub mod Places
+pub mod Rests
+pub mod Serving
+pub mod Wants
+pub mod Heads
+pub mod Puts
+pub mod Crossed
+pub mod Crossbars
+pub mod PlanCrossbars
