@@ -1,1 +1,2 @@
 mod NodeLines
+mod HexadecimalDigits

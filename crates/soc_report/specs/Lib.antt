@@ -1,3 +1,4 @@
 pub mod Lines
 pub mod MapText
 pub mod NetlistLine
+pub mod TraceLines

@@ -1,0 +1,6 @@
+pub mod Fitting
+pub mod Heard
+pub mod Running
+pub mod Offered
+pub mod Told
+pub mod Cycled
