@@ -3,7 +3,7 @@
 
 Run it at the top of the repository. The program crates/soc_tests runs on the designs and netlist texts in its data folder, and
 its stdout holds the maps and lines that it must print: the same files and answers as in examples/, and of those in
-examples/refused/ the refusal that stands in their first line. Each difference is a line, and the status is 1 where there is one.
+examples/refused/ the refusal that stands in their first line, by `map` or by `verilog` as it says. Each difference is a line, and the status is 1 where there is one.
 """
 
 import re
@@ -15,25 +15,27 @@ CASES = Path("crates/soc_tests")
 
 
 def examples():
-    """Each example with its command and with what is printed, exit status and all."""
+    """Each example with its run and with what is printed, exit status and all."""
     for design in sorted([*EXAMPLES.glob("*.toml"), *(EXAMPLES / "guide").glob("*.toml")]):
-        yield design, "map", f"{design.with_suffix('.map').read_text()}status 0\n"
+        yield design, f"map {design.name}", f"{design.with_suffix('.map').read_text()}status 0\n"
     for text in sorted(EXAMPLES.glob("*.v")):
-        yield text, "read", f"{text.with_suffix('.read').read_text()}status 0\n"
+        yield text, f"read {text.name}", f"{text.with_suffix('.read').read_text()}status 0\n"
     for refused in sorted((EXAMPLES / "refused").glob("*.toml")):
-        yield refused, "map", f"{refused.read_text()[2:].partition(':')[0]}\nstatus 1\n"
+        line, _, meaning = refused.read_text()[2:].partition("\n")[0].partition(":")
+        run = f"verilog {refused.name} none.v" if "`verilog`" in meaning else f"map {refused.name}"
+        yield refused, run, f"{line}\nstatus 1\n"
 
 
 def differences():
     """What differs: a copied file, or the answer that stands at the place of its run."""
     runs = [line for line in (CASES / "stdin").read_text().splitlines() if line.startswith("run ")]
     answers = re.findall(r"(?ms)^.*?^status \d+\n", (CASES / "stdout").read_text().partition("\n")[2])
-    for example, command, printed in examples():
-        copy, run = CASES / "data" / example.name, f"run {command} {example.name}"
+    for example, words, printed in examples():
+        copy, run = CASES / "data" / example.name, f"run {words}"
         if not copy.is_file() or copy.read_bytes() != example.read_bytes():
             yield f"{copy} isn't {example}"
         if run not in runs:
-            yield f"{CASES}/stdin doesn't run {command} {example.name}"
+            yield f"{CASES}/stdin doesn't {run}"
         elif answers[runs.index(run)] != printed:
             yield f"{CASES}/stdout hasn't the answer to {example} in its place"
 

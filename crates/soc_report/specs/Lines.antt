@@ -15,7 +15,7 @@ bad_text_line place = codes "bad text " ++ decimal place ++ codes "\n"
 abbrev pub line_of : Status → List ℕ
 line_of Done = []
 line_of (Refused check subject) = refused_line check subject
-line_of Usage = codes "usage: soc map|read\n"
+line_of Usage = codes "usage: soc map|verilog|read\n"
 line_of ReadFailed = codes "read failed\n"
 line_of WriteFailed = []
 line_of Memory = []

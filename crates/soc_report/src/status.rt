@@ -70,7 +70,7 @@ pub fn fault_text(status: &Status, into: &mut [u8; 256]) -> usize
     match status {
         Status::Refused { check, subject } => refused_text(*check, *subject, into),
         Status::BadText { place } => bad_text_text(*place, into),
-        Status::Usage => add(into, 0, b"usage: soc map|read\n"),
+        Status::Usage => add(into, 0, b"usage: soc map|verilog|read\n"),
         Status::ReadFailed => add(into, 0, b"read failed\n"),
         Status::Done | Status::WriteFailed | Status::Memory => 0,
     }

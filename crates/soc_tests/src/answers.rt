@@ -8,18 +8,18 @@ use soc_top::{soc, soc_by_standard_rules};
 use std::alloc::Global;
 use std::{io, str};
 
-/// What is to fail in a run in memory: the load and the put with these numbers, 0 for none.
+/// What is to fail in a run in memory: the load or save and the put with these numbers, 0 for none.
 #[derive(Clone, Copy)]
 pub struct Failing {
-    pub load: u64,
+    pub call: u64,
     pub put: u64,
 }
 
 /// A run in which nothing fails.
-pub const NOTHING: Failing = Failing { load: 0, put: 0 };
+pub const NOTHING: Failing = Failing { call: 0, put: 0 };
 
 /// A run in which the first load fails.
-pub const FIRST_LOAD: Failing = Failing { load: 1, put: 0 };
+pub const FIRST_LOAD: Failing = Failing { call: 1, put: 0 };
 
 /// A command on one file.
 #[derive(Clone, Copy)]
@@ -56,10 +56,10 @@ fn words_of(alloc: Global, line: &str) -> Result<Vec<String>, Memory> {
     Ok(words)
 }
 
-// The files of a run: `a` alone.
-fn files_of(alloc: Global, file: &[u8], failing: &Failing) -> Result<MemFiles, Memory> {
+/// The files of a run: `a` alone.
+pub fn files_of(alloc: Global, file: &[u8], failing: &Failing) -> Result<MemFiles, Memory> {
     let mut files = MemFiles::new(alloc);
-    files.fail_at(failing.load)?;
+    files.fail_at(failing.call)?;
     files.set("a", file)?;
     Ok(files)
 }
@@ -71,6 +71,23 @@ fn most(failing: &Failing) -> usize
     if failing.put == 0 { 300 } else { 1 }
 }
 
+/// The answer to words on files in memory.
+pub fn answer_on(
+    alloc: Global,
+    line: &str,
+    files: &mut MemFiles,
+    failing: &Failing,
+) -> Result<Answer, Memory> {
+    let words = words_of(alloc, line)?;
+    let mut out = MemOut::new(alloc, most(failing));
+    out.fail_at(failing.put)?;
+    let status = soc_by_standard_rules(alloc, words.as_slice(), files, &mut out)?;
+    Ok(Answer {
+        code: status.code(),
+        printed: Items::from_vec(Vec::from_slice(alloc, out.bytes())?),
+    })
+}
+
 /// The answer to a command on a file of these bytes.
 pub fn answer_to(
     alloc: Global,
@@ -78,15 +95,8 @@ pub fn answer_to(
     file: &[u8],
     failing: &Failing,
 ) -> Result<Answer, Memory> {
-    let words = words_of(alloc, command.words())?;
     let mut files = files_of(alloc, file, failing)?;
-    let mut out = MemOut::new(alloc, most(failing));
-    out.fail_at(failing.put)?;
-    let status = soc_by_standard_rules(alloc, words.as_slice(), &mut files, &mut out)?;
-    Ok(Answer {
-        code: status.code(),
-        printed: Items::from_vec(Vec::from_slice(alloc, out.bytes())?),
-    })
+    answer_on(alloc, command.words(), &mut files, failing)
 }
 
 /// The answer to `map` on a file of these bytes, by rules that are handed in.

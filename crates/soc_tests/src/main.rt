@@ -9,11 +9,14 @@
 //! changed (`^` is a line end), `cuts` those on each front of it, `puts` where each put fails in turn,
 //! `loads` where the first load fails, `given TEMPLATE DOWN UP` by a rule of the kind `given` besides,
 //! `narrow` by one rule alone, of the kind `narrow`, and `run ..` runs these words on the files that lie
-//! where this program runs. `tree` prints what a design file states and the map doesn't show, and `plan` the
+//! where this program runs. `built` runs `verilog` on the design file and a text that isn't there, `rebuilt`
+//! on a text that is, `unsaved` where saving that fails, and `unsaid` where the third byte of the line isn't
+//! taken; each prints what the text holds then. `tree` prints what a design file states and the map doesn't show, and `plan` the
 //! plan of its design.
 #![tactic(auto)]
 
 mod answers;
+mod building;
 mod lies;
 mod narrow;
 mod plan;

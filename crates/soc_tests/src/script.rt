@@ -2,6 +2,7 @@ use crate::answers::{
     Answer, Command, FIRST_LOAD, Failing, NOTHING, answer_to, print_answer, print_ended,
     print_size, run_words,
 };
+use crate::building::{show_built, show_overwritten, show_unsaid, show_unsaved};
 use crate::lies::{map_by_given, map_by_narrow};
 use crate::plan::show_plan;
 use crate::tree::show_tree;
@@ -94,7 +95,7 @@ fn wrong_put(
 ) -> Result<Option<usize>, Memory> {
     for count in 0..due.len() {
         let failing = Failing {
-            load: 0,
+            call: 0,
             put: count as u64 + 1,
         };
         let answer = answer_to(alloc, command, file, &failing)?;
@@ -238,6 +239,10 @@ impl Script {
             "given" => self.show_given(rt, argument),
             "narrow" => print_ended(rt, map_by_narrow(self.alloc, self.file.as_bytes())),
             "size" => print_size(rt, self.answer(&NOTHING)),
+            "built" => show_built(rt, self.file.as_bytes()),
+            "rebuilt" => show_overwritten(rt, self.file.as_bytes()),
+            "unsaved" => show_unsaved(rt, self.file.as_bytes()),
+            "unsaid" => show_unsaid(rt, self.file.as_bytes()),
             "tree" => show_tree(rt, self.file.as_bytes()),
             "plan" => show_plan(rt, self.file.as_bytes()),
             "run" => run_words(rt, argument),

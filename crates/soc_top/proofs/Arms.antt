@@ -1,22 +1,25 @@
 -- The answers of the commands as those of a run, whatever its words.
-use Rattle.std.proofs.Common.{ℕ, ◌≡◌, ◌⊎◌, inl, inr, List, [], ◌∷◌, Bool, true, false, Option, Some, None, Result, Ok, Err, refl, sym, subst, ◌∙◌, ap, take, drop, length}
+use Rattle.std.proofs.Common.{ℕ, ◌≡◌, ◌≢◌, ◌⊎◌, inl, inr, List, [], ◌∷◌, Bool, true, false, Option, Some, None, Result, Ok, Err, refl, sym, subst, ◌∙◌, ap, take, drop, length}
 use Rattle.std.specs.Prelude.{◌&&◌, cond, codes}
+use Rattle.std.specs.Option.{option_map}
 use Rattle.std.specs.Str.{bytes_eq}
 use Rattle.std.proofs.lemmas.Slice.Eq.{bytes_eq-Decides}
 use Rattle.dip_lists.specs.First.{Failure, failure_of}
-use Rattle.dip_io.specs.Outside.{Told, AreFirst, LoadsRose, Writes}
+use Rattle.dip_io.specs.Outside.{Told, AreFirst, LoadsRose, Rose, SavesRose, Writes}
 use Rattle.dip_rule.specs.Stated.{StatedRule}
 use Rattle.net_cells.specs.declared.netlist.Netlist.{Netlist}
 use Rattle.ver_text.proofs.Spells.{spelled_read}
 use Rattle.soc_report.specs.Lines.{line_of}
 use Rattle.soc_report.specs.declared.status.Status.{Status}
 use Rattle.soc_report.specs.declared.status.Status.TheVariants.{Done, Refused, Usage, ReadFailed, WriteFailed, Memory, BadText}
-use Rattle.soc_top.specs.Words.{is_file_name, file_of, design_named, text_named, HaveNoForm}
+use Rattle.soc_top.specs.Words.{BuildFiles, is_file_name, file_of, files_of, design_named, text_named, build_named, saved_named, HaveNoForm}
 use Rattle.soc_top.specs.Designs.{first_failure, answer_of, called_for}
+use Rattle.soc_top.specs.Netlists.{build_failure, IsVerilogOf}
 use Rattle.soc_top.specs.Texts.{most_text, most_text_loaded, said_by, answer_to, line_said, IsTextOf, IsRefusedAt, too_long, no_netlist}
 use Rattle.soc_top.specs.Printing.{Printed}
-use Rattle.soc_top.specs.Worlds.{World, IsLoaded}
-use Rattle.soc_top.specs.Answers.{most_loaded, MapAnswered, ReadAnswered, UsageAnswered, Answered, Completed, AnsweredBy}
+use Rattle.soc_top.specs.Worlds.{World, most_loaded, IsLoaded}
+use Rattle.soc_top.specs.Building.{IsBuilt, WasHalted, on_line, unsaved, saved}
+use Rattle.soc_top.specs.Answers.{MapAnswered, ReadAnswered, VerilogAnswered, UsageAnswered, Answered, Completed, AnsweredBy, BuiltBy}
 use Rattle.soc_top.proofs.ReadRuns.{within_said, beyond_said}
 
 -- what was appended to nothing
@@ -57,6 +60,20 @@ two_commands e = cc
 not_both : (words : List (List ℕ)) (a b : List ℕ) → design_named words ≡ Some a → text_named words ≡ Some b → ⊥
 not_both words a b e k = two_commands (one_command (codes "map") (codes "read") words a b e k)
 
+-- words with one file haven't two
+one_form : (c d : List ℕ) (words : List (List ℕ)) (a : List ℕ) (names : BuildFiles) → file_of c words ≡ Some a → files_of d words ≡ Some names → ⊥
+one_form c d [] a names e k = cc
+one_form c d (word ∷ []) a names e k = cc
+one_form c d (word ∷ name ∷ []) a names e k = cc
+one_form c d (word ∷ name ∷ text ∷ []) a names e k = cc
+one_form c d (word ∷ name ∷ text ∷ more ∷ words) a names e k = cc
+
+same_files : (found : Option BuildFiles) (a b : BuildFiles) → found ≡ Some a → found ≡ Some b → a ≡ b
+same_files found a b e k = cc
+
+no_files : (found : Option BuildFiles) (a : BuildFiles) → found ≡ Some a → found ≡ None → ⊥
+no_files found a e k = cc
+
 nothing_found : (found : Option (List ℕ)) (a : List ℕ) → found ≡ Some a → found ≡ None → ⊥
 nothing_found found a e k = cc
 
@@ -65,6 +82,7 @@ module _ (rules : List StatedRule) (words : List (List ℕ)) (before after : Wor
   of_map name e h = record {
     map = λ other k. subst (λ n. MapAnswered rules n before after result) (one_name (design_named words) name other e k) h;
     read = λ other k. absurd (not_both words name other e k);
+    verilog = λ names k. absurd (one_form (codes "map") (codes "verilog") words name names e k);
     usage = λ none. absurd (nothing_found (design_named words) name e none.design);
   }
 
@@ -72,7 +90,16 @@ module _ (rules : List StatedRule) (words : List (List ℕ)) (before after : Wor
   of_read name e h = record {
     map = λ other k. absurd (not_both words other name k e);
     read = λ other k. subst (λ n. ReadAnswered n before after result) (one_name (text_named words) name other e k) h;
+    verilog = λ names k. absurd (one_form (codes "read") (codes "verilog") words name names e k);
     usage = λ none. absurd (nothing_found (text_named words) name e none.text);
+  }
+
+  pub of_verilog : (names : BuildFiles) → build_named words ≡ Some names → VerilogAnswered rules names before after result → Answered rules words before after result
+  of_verilog names e h = record {
+    map = λ name k. absurd (one_form (codes "map") (codes "verilog") words name names k e);
+    read = λ name k. absurd (one_form (codes "read") (codes "verilog") words name names k e);
+    verilog = λ other k. subst (λ n. VerilogAnswered rules n before after result) (same_files (build_named words) names other e k) h;
+    usage = λ none. absurd (no_files (build_named words) names e none.files);
   }
 
   usage_printed : Printed (line_of Usage) Usage result before.out after.out → (result ≡ Usage) ⊎ (result ≡ WriteFailed) → UsageAnswered before after result
@@ -80,13 +107,18 @@ module _ (rules : List StatedRule) (words : List (List ℕ)) (before after : Wor
   usage_printed p (inl r) = rw r (p.whole (λ h. (cc)))
   usage_printed p (inr r) = let part = p.part r in rw r (part.0, (line_of Usage, refl, part.1))
 
-  pub of_usage : design_named words ≡ None → text_named words ≡ None → Printed (line_of Usage) Usage result before.out after.out
+  pub of_usage : design_named words ≡ None → text_named words ≡ None → build_named words ≡ None → Printed (line_of Usage) Usage result before.out after.out
       → Answered rules words before after result
-  of_usage d t p = record {
+  of_usage d t f p = record {
     map = λ name k. absurd (nothing_found (design_named words) name k d);
     read = λ name k. absurd (nothing_found (text_named words) name k t);
+    verilog = λ names k. absurd (no_files (build_named words) names k f);
     usage = λ none. usage_printed p p.either;
   }
+
+-- a name that isn't the one to be saved
+pub other_name : (words : List (List ℕ)) (names : BuildFiles) (name : List ℕ) → build_named words ≡ Some names → saved_named words ≢ Some name → name ≢ names.text
+other_name words names name e h same = h (ap (option_map (λ (n : BuildFiles). n.text)) e ∙ ap Some (sym same))
 
 -- ---- what comes where a file is told and was loaded
 
@@ -137,6 +169,31 @@ module _ (rules : List StatedRule) (name : List ℕ) (before after : World) wher
   read_gives Usage h all t no_load = absurd h
   read_gives (Refused check subject) h all t no_load = absurd h
 
+module _ (rules : List StatedRule) (names : BuildFiles) (before after : World) (all : List ℕ) where
+  halted : WasHalted rules names before after → ¬ (SavesRose names.text before.files after.files) → Rose before.out.faults after.out.faults
+  halted (on_line same cut) no_save = cut.0
+  halted (unsaved netlist text is rose nothing) no_save = absurd (no_save rose)
+  halted (saved netlist text is saves cut) no_save = cut.0
+
+  verilog_gives : (result : Status) → VerilogAnswered rules names before after result → before.files.content names.design ≡ Some (Some all)
+      → ¬ (LoadsRose names.design before.files after.files) → ¬ (SavesRose names.text before.files after.files)
+      → BuiltBy rules names.text (take most_loaded all) before after result
+  unfolding VerilogAnswered
+  verilog_gives Done (netlist, (text, is, saves, written)) t no_load no_save =
+      let same : is.bytes ≡ take most_loaded all = whole most_loaded names.design before is.bytes all t is.loaded in
+      let none : build_failure rules (take most_loaded all) ≡ None = ap (build_failure rules) (sym same) ∙ is.passes in
+      let text_of_all : IsVerilogOf rules (take most_loaded all) netlist text = subst (λ bytes. IsVerilogOf rules bytes netlist text) same is.is in
+      inr (inr (rw none refl, rw none (netlist, (text, text_of_all, saves, written))))
+  verilog_gives (Refused check subject) (bytes, l, found, kept, written) t no_load no_save =
+      let same : bytes ≡ take most_loaded all = whole most_loaded names.design before bytes all t l in
+      let some : build_failure rules (take most_loaded all) ≡ Some (failure_of check subject) = ap (build_failure rules) (sym same) ∙ found in
+      inr (inr (rw some refl, rw some (kept, written)))
+  verilog_gives ReadFailed (kept, (rose, written)) t no_load no_save = absurd (no_load rose)
+  verilog_gives WriteFailed h t no_load no_save = inr (inl (refl, halted h no_save))
+  verilog_gives Memory h t no_load no_save = inl refl
+  verilog_gives Usage h t no_load no_save = absurd h
+  verilog_gives (BadText place) h t no_load no_save = absurd h
+
 usage_gives : (before after : World) (result : Status) → UsageAnswered before after result → (result ≡ WriteFailed) ⊎ (result ≡ Usage)
 unfolding UsageAnswered
 usage_gives before after Usage h = inr refl
@@ -153,4 +210,5 @@ completed rules words before after result a = record {
   of_words = λ none. usage_gives before after result (a.usage none);
   of_design = λ name all e. map_gives rules name before after result (a.map name e) all;
   of_text = λ name all e. read_gives rules name before after result (a.read name e) all;
+  of_files = λ names all e. verilog_gives rules names before after all result (a.verilog names e);
 }

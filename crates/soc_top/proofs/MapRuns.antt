@@ -8,8 +8,8 @@ use Rattle.soc_report.specs.declared.status.Status.{Status}
 use Rattle.soc_report.specs.declared.status.Status.TheVariants.{Done, ReadFailed, WriteFailed, Memory}
 use Rattle.soc_top.specs.Designs.{first_failure, answer_of, called_for, due_text, map_of, IsMapOf}
 use Rattle.soc_top.specs.Printing.{Printed, PrintedIfMemory}
-use Rattle.soc_top.specs.Worlds.{World, IsLoaded, loaded, read_failed}
-use Rattle.soc_top.specs.Answers.{most_loaded, MapAnswered}
+use Rattle.soc_top.specs.Worlds.{World, most_loaded, IsLoaded, loaded, read_failed}
+use Rattle.soc_top.specs.Answers.{MapAnswered}
 
 module _ (rules : List StatedRule) (name : List ℕ) (before after : World) (result : Status) where
   printed : (bytes : List ℕ) (found : Option Failure) → found ≡ first_failure rules bytes → IsLoaded most_loaded name before bytes

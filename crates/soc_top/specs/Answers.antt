@@ -1,22 +1,20 @@
--- The answers of each command: when each may come, and what was printed. No file changes.
-use Rattle.std.specs.Prelude.{ℕ, ◌+◌, ◌≡◌, ◌⊎◌, List, take, Some, None}
-use Rattle.dip_lists.specs.First.{failure_of}
-use Rattle.dip_io.specs.Outside.{LoadsRose, Writes}
+-- The answers of each command: when each may come, what was printed, and what the files hold. `map` and `read` change no
+-- file.
+use Rattle.std.specs.Prelude.{ℕ, ◌≡◌, ◌⊎◌, List, Option, take, Some, None}
+use Rattle.dip_lists.specs.First.{Failure, failure_of}
+use Rattle.dip_io.specs.Outside.{LoadsRose, Rose, SameContent, Saves, SavesRose, Writes}
 use Rattle.dip_rule.specs.Stated.{StatedRule}
 use Rattle.net_cells.specs.declared.netlist.Netlist.{Netlist}
-use Rattle.soc_design.specs.Reading.{most_bytes}
 use Rattle.soc_report.specs.declared.status.Status.{Status}
 use Rattle.soc_report.specs.declared.status.Status.TheVariants.{Done, Refused, Usage, ReadFailed, WriteFailed, Memory, BadText}
 use Rattle.soc_report.specs.Lines.{line_of}
 use Rattle.soc_report.specs.NetlistLine.{netlist_line}
-use Rattle.soc_top.specs.Words.{design_named, text_named, HaveNoForm}
+use Rattle.soc_top.specs.Words.{BuildFiles, design_named, text_named, build_named, HaveNoForm}
 use Rattle.soc_top.specs.Designs.{first_failure, answer_of, called_for, map_of, IsMapOf}
 use Rattle.soc_top.specs.Texts.{most_text_loaded, said_by, answer_to, line_said, IsTextOf, IsRefusedAt}
-use Rattle.soc_top.specs.Worlds.{World, IsLoaded, WasNotLoaded, Due, WasCutOff, NothingPrinted}
-
--- the most bytes of a design file that are loaded: one more than a design may have
-abbrev pub most_loaded : ℕ
-most_loaded = most_bytes + 1
+use Rattle.soc_top.specs.Netlists.{build_failure, IsVerilogOf}
+use Rattle.soc_top.specs.Worlds.{World, most_loaded, IsLoaded, WasNotLoaded, Due, WasCutOff, NothingPrinted}
+use Rattle.soc_top.specs.Building.{IsBuilt, WasHalted}
 
 -- ---- `map` on a design file of this name, answer by answer
 
@@ -53,6 +51,27 @@ ReadAnswered name before after Memory = NothingPrinted before after
 ReadAnswered name before after Usage = ⊥
 ReadAnswered name before after (Refused check subject) = ⊥
 
+-- ---- `verilog` on a design file and a text of these names, answer by answer
+
+-- The line of a netlist comes where the loaded design fails no check and the text holds what spells the netlist, which is
+-- that of the design's plan; a refusal where this is the first check that the design fails. Only then has the text
+-- changed, or where saving it or writing the line has failed.
+unfoldable pub VerilogAnswered : List StatedRule → BuildFiles → World → World → Status → Type 0
+VerilogAnswered rules names before after Done =
+    (netlist : Netlist) × ((text : List ℕ) × IsBuilt rules names.design before netlist text
+    × Saves names.text text before.files after.files × Writes (netlist_line netlist) before.out after.out)
+VerilogAnswered rules names before after (Refused check subject) =
+    (bytes : List ℕ) × IsLoaded most_loaded names.design before bytes
+    × (build_failure rules bytes ≡ Some (failure_of check subject)) × SameContent before.files after.files
+    × Writes (line_of (Refused check subject)) before.out after.out
+VerilogAnswered rules names before after ReadFailed =
+    SameContent before.files after.files × WasNotLoaded names.design before after
+VerilogAnswered rules names before after WriteFailed = WasHalted rules names before after
+VerilogAnswered rules names before after Memory =
+    SameContent before.files after.files × NothingPrinted before after
+VerilogAnswered rules names before after Usage = ⊥
+VerilogAnswered rules names before after (BadText place) = ⊥
+
 -- ---- words of no stated form, answer by answer
 
 -- The usage is printed.
@@ -72,6 +91,8 @@ pub record Answered (rules : List StatedRule) (words : List (List ℕ)) (before 
     (result : Status) : Type 0 where
   pub map : (name : List ℕ) → design_named words ≡ Some name → MapAnswered rules name before after result
   pub read : (name : List ℕ) → text_named words ≡ Some name → ReadAnswered name before after result
+  pub verilog : (names : BuildFiles) → build_named words ≡ Some names
+      → VerilogAnswered rules names before after result
   pub usage : HaveNoForm words → UsageAnswered before after result
 
 -- this answer came with this text, written whole; a failed write and want of memory are apart
@@ -79,9 +100,25 @@ abbrev pub AnsweredBy : Status → List ℕ → World → World → Status → T
 AnsweredBy wanted text before after result =
     (result ≡ Memory) ⊎ (result ≡ WriteFailed) ⊎ ((result ≡ wanted) × Writes text before.out after.out)
 
+-- what the bytes of a design file call for where a netlist is to be built: the line of the first check that they fail, and
+-- no file has changed; or a text that spells a netlist of the design's plan, saved whole, and the netlist's line
+abbrev pub IsMade : List StatedRule → List ℕ → List ℕ → Option Failure → World → World → Type 0
+IsMade rules name bytes (Some failure) before after =
+    SameContent before.files after.files × Writes (line_of (answer_of (Some failure))) before.out after.out
+IsMade rules name bytes None before after =
+    (netlist : Netlist) × ((text : List ℕ) × IsVerilogOf rules bytes netlist text
+    × Saves name text before.files after.files × Writes (netlist_line netlist) before.out after.out)
+
+-- this answer came with what these bytes call for; a failed write of the output and want of memory are apart
+abbrev pub BuiltBy : List StatedRule → List ℕ → List ℕ → World → World → Status → Type 0
+BuiltBy rules name bytes before after result =
+    (result ≡ Memory) ⊎ ((result ≡ WriteFailed) × Rose before.out.faults after.out.faults)
+    ⊎ ((result ≡ answer_of (build_failure rules bytes))
+    × IsMade rules name bytes (build_failure rules bytes) before after)
+
 -- The other direction: where the words have no stated form, the answer is the usage; where a file is told and was
 -- loaded without a fault, the answer is what its bytes call for, written whole. A failed write and want of memory are
--- apart.
+-- apart; where no save of the text has failed either, `verilog` answers so.
 pub record Completed (rules : List StatedRule) (words : List (List ℕ)) (before after : World)
     (result : Status) : Type 0 where
   pub of_words : HaveNoForm words → (result ≡ WriteFailed) ⊎ (result ≡ Usage)
@@ -93,3 +130,7 @@ pub record Completed (rules : List StatedRule) (words : List (List ℕ)) (before
       → ¬ (LoadsRose name before.files after.files)
       → AnsweredBy (answer_to (said_by (take most_text_loaded all))) (line_said (said_by (take most_text_loaded all)))
       before after result
+  pub of_files : (names : BuildFiles) (all : List ℕ) → build_named words ≡ Some names
+      → before.files.content names.design ≡ Some (Some all)
+      → ¬ (LoadsRose names.design before.files after.files) → ¬ (SavesRose names.text before.files after.files)
+      → BuiltBy rules names.text (take most_loaded all) before after result

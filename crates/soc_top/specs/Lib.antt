@@ -1,7 +1,9 @@
 pub mod Words
 pub mod Designs
+pub mod Netlists
 pub mod Texts
 pub mod FirstOfAll
 pub mod Printing
 pub mod Worlds
+pub mod Building
 pub mod Answers

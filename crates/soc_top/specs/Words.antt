@@ -2,6 +2,7 @@
 use Rattle.std.specs.Prelude.{ℕ, ◌≡◌, List, [], ◌∷◌, Bool, true, not, ◌&&◌, ◌==◌, cond, Option, Some, None}
 use Rattle.std.specs.Prelude.{codes, map, String, string_bytes}
 use Rattle.std.specs.Str.{bytes_eq}
+use Rattle.std.specs.Option.{option_map}
 use Rattle.std.specs.declared.alloc.Global.{Global}
 
 -- a file name is a word that doesn't begin with `-`
@@ -24,10 +25,37 @@ design_named words = file_of (codes "map") words
 abbrev pub text_named : List (List ℕ) → Option (List ℕ)
 text_named words = file_of (codes "read") words
 
--- the words have neither of the stated forms
+-- two files: a design that is loaded, and a text that is saved
+pub record BuildFiles : Type 0 where
+  pub design : List ℕ
+  pub text : List ℕ
+
+-- these two files
+abbrev pub build_files : List ℕ → List ℕ → BuildFiles
+build_files design text = record { design = design; text = text }
+
+-- the files of a command's words, where they are the command and two file names
+abbrev pub files_of : List ℕ → List (List ℕ) → Option BuildFiles
+files_of command [] = None
+files_of command (word ∷ []) = None
+files_of command (word ∷ design ∷ []) = None
+files_of command (word ∷ design ∷ text ∷ []) =
+    cond (bytes_eq word command && is_file_name design && is_file_name text) (Some (build_files design text)) None
+files_of command (word ∷ design ∷ text ∷ more ∷ words) = None
+
+-- the files of the words `verilog <design> <text>`
+abbrev pub build_named : List (List ℕ) → Option BuildFiles
+build_named words = files_of (codes "verilog") words
+
+-- the file that the words give for saving, if there is one
+abbrev pub saved_named : List (List ℕ) → Option (List ℕ)
+saved_named words = option_map (λ names. names.text) (build_named words)
+
+-- the words have none of the stated forms
 pub record HaveNoForm (words : List (List ℕ)) : Type 0 where
   pub design : design_named words ≡ None
   pub text : text_named words ≡ None
+  pub files : build_named words ≡ None
 
 -- the bytes of some words
 abbrev pub words_of : List (String Global) → List (List ℕ)

@@ -7,6 +7,7 @@ mod printing;
 mod read;
 mod standard;
 mod top;
+mod verilog;
 mod words;
 
 pub use laws::first_of_all_law;

@@ -25,7 +25,7 @@ use soc_report::{Status, map_text};
 use std::alloc::Global;
 
 /// The most bytes of a design file that are loaded: one more than a design may have.
-const MOST_LOADED: usize = MOST_BYTES + 1;
+pub const MOST_LOADED: usize = MOST_BYTES + 1;
 
 // The map of a design, or the first check that it fails.
 fn map_of_design(alloc: Global, design: &Design, rules: &Rules) -> Result<Bytes, Fault>

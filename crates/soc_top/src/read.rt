@@ -1,16 +1,14 @@
 ghost use Rattle.dip_io.specs.Outside.{SameContent};
 ghost use Rattle.ver_text.specs.Reading.{Gives};
-ghost use Rattle.soc_report.specs.NetlistLine.{netlist_line};
-ghost use Rattle.soc_report.specs.declared.status.Status.TheVariants.{Done};
 ghost use Rattle.soc_top.specs.Texts.{answer_to, line_said, said_by};
-ghost use Rattle.soc_top.specs.Printing.{Printed, PrintedIfMemory};
+ghost use Rattle.soc_top.specs.Printing.{PrintedIfMemory};
 ghost use Rattle.soc_top.specs.Worlds.{world};
 ghost use Rattle.soc_top.specs.Answers.{ReadAnswered};
 
-use crate::printing::{finish, print_text};
+use crate::printing::{finish, print_netlist};
 use dip_io::{Files, LoadFault, Out};
 use net_cells::Netlist;
-use soc_report::{Status, netlist_line};
+use soc_report::Status;
 use std::alloc::Global;
 use ver_text::{TextFault, read};
 
@@ -28,15 +26,6 @@ fn netlist_of(alloc: Global, bytes: &[u8]) -> Result<Netlist, TextFault>
         return Err(TextFault::NotText { place: MOST_TEXT });
     }
     read(alloc, bytes)
-}
-
-// Prints the line of a netlist.
-fn print_netlist<O: Out>(netlist: &Netlist, out: &mut O) -> Status
-    ensures { Printed (netlist_line netlist.now) Done result (O.seen out.old) (O.seen out.new) }
-{
-    let mut line = [0u8; 256];
-    let count = netlist_line(netlist, &mut line);
-    print_text(&line[..count], Status::Done, out)
 }
 
 // Runs on the bytes of a text.

@@ -1,8 +1,7 @@
 ghost use Rattle.std.specs.Prelude.{◌≡◌, IfErr, IfOk};
-ghost use Rattle.dip_io.specs.Outside.{SameContent};
 ghost use Rattle.tl_rules.specs.Standard.{standard};
-ghost use Rattle.soc_top.specs.Words.{words_of};
-ghost use Rattle.soc_top.specs.Worlds.{world};
+ghost use Rattle.soc_top.specs.Words.{saved_named, words_of};
+ghost use Rattle.soc_top.specs.Worlds.{world, KeepsOthers};
 ghost use Rattle.soc_top.specs.Answers.{Answered, Completed};
 
 use crate::top::soc;
@@ -20,7 +19,7 @@ pub fn soc_by_standard_rules<F: Files, O: Out>(
     files: &mut F,
     out: &mut O,
 ) -> Result<Status, Memory>
-    ensures files { SameContent (F.seen files.old) (F.seen files.new) }
+    ensures files { KeepsOthers (saved_named (words_of words.now)) (F.seen files.old) (F.seen files.new) }
     ensures answered { IfOk result (λ status. Answered standard (words_of words.now) (world
         (F.seen files.old) (O.seen out.old)) (world (F.seen files.new) (O.seen out.new)) status) }
     ensures completed { IfOk result (λ status. Completed standard (words_of words.now) (world

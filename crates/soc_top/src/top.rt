@@ -1,12 +1,12 @@
-ghost use Rattle.dip_io.specs.Outside.{SameContent};
-ghost use Rattle.soc_top.specs.Words.{words_of};
-ghost use Rattle.soc_top.specs.Worlds.{world};
+ghost use Rattle.soc_top.specs.Words.{saved_named, words_of};
+ghost use Rattle.soc_top.specs.Worlds.{world, KeepsOthers};
 ghost use Rattle.soc_top.specs.Answers.{Answered, Completed};
 
 use crate::map::answer_map;
 use crate::printing::finish;
 use crate::read::answer_read;
-use crate::words::file_of;
+use crate::verilog::answer_verilog;
+use crate::words::{file_of, files_of};
 use dip_io::{Files, Out};
 use dip_rule::{Rules, Stating};
 use soc_report::Status;
@@ -20,7 +20,7 @@ fn answer<F: Files, O: Out>(
     out: &mut O,
     rules: &Rules,
 ) -> Status
-    ensures files { SameContent (F.seen files.old) (F.seen files.new) }
+    ensures files { KeepsOthers (saved_named (words_of words.now)) (F.seen files.old) (F.seen files.new) }
     ensures answered { Answered (⟦<Rules as Stating>⟧.stated rules.now) (words_of words.now) (world
         (F.seen files.old) (O.seen out.old))
         (world (F.seen files.new) (O.seen out.new)) result }
@@ -31,13 +31,19 @@ fn answer<F: Files, O: Out>(
     if let Some(name) = file_of("read", words) {
         return answer_read(alloc, name, files, out);
     }
+    if let Some(names) = files_of("verilog", words) {
+        return answer_verilog(alloc, &names, files, out, rules);
+    }
     finish(Status::Usage, out)
 }
 
 /// Does what the words ask: `map <design>` prints the map of a design file, or the first check that it fails;
-/// `read <text>` prints the line of the netlist that a text spells, or the place at which it is refused.
+/// `verilog <design> <text>` saves the text of the netlist of a design file and prints the netlist's line, or
+/// the first check that the design fails; `read <text>` prints the line of the netlist that a text spells, or
+/// the place at which it is refused.
 ///
-/// `words` doesn't hold the program's name, and `rules` are those of the kinds of nodes. No file changes.
+/// `words` doesn't hold the program's name, and `rules` are those of the kinds of nodes. No file changes but
+/// the text of `verilog`, and that one only where the design passes all checks.
 pub fn soc<F: Files, O: Out>(
     alloc: Global,
     words: &[String],
@@ -45,7 +51,7 @@ pub fn soc<F: Files, O: Out>(
     out: &mut O,
     rules: &Rules,
 ) -> Status
-    ensures files { SameContent (F.seen files.old) (F.seen files.new) }
+    ensures files { KeepsOthers (saved_named (words_of words.now)) (F.seen files.old) (F.seen files.new) }
     ensures answered { Answered (⟦<Rules as Stating>⟧.stated rules.now) (words_of words.now) (world
         (F.seen files.old) (O.seen out.old))
         (world (F.seen files.new) (O.seen out.new)) result }
