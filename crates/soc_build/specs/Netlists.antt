@@ -32,7 +32,9 @@ pub record IsPlanned (rules : List StatedRule) (design : Design) (accepted : Acc
   pub stands : StandsTo design accepted.edges accepted.solution accepted.plan
 
 -- A netlist of a design: well formed, with no net that depends on itself through cells, set back by a cycle with
--- `reset` 1, and in each cycle with `reset` 0 the network of the design's plan.
+-- `reset` 1, and one that implements the design's plan: it has the plan's ports, and in each run from the start its
+-- outputs show what the plan's network does, as long as the ports offer what their edges carry and each cycle starts in
+-- a locally valid state.
 pub record IsNetlistOf (rules : List StatedRule) (design : Design) (netlist : Netlist) : Type 0 where
   pub accepted : Accepted
   pub planned : IsPlanned rules design accepted

@@ -11,8 +11,8 @@
 //! `narrow` by one rule alone, of the kind `narrow`, and `run ..` runs these words on the files that lie
 //! where this program runs. `built` runs `verilog` on the design file and a text that isn't there, `rebuilt`
 //! on a text that is, `unsaved` where saving that fails, and `unsaid` where the third byte of the line isn't
-//! taken; each prints what the text holds then. `tree` prints what a design file states and the map doesn't show, and `plan` the
-//! plan of its design.
+//! taken; each prints what the text holds then. `tree` prints what a design file states and the map doesn't
+//! show, and `plan` the plan of its design.
 #![tactic(auto)]
 
 mod answers;

@@ -18,7 +18,7 @@ use Rattle.soc_top.specs.Netlists.{build_failure, IsVerilogOf}
 use Rattle.soc_top.specs.Texts.{most_text, most_text_loaded, said_by, answer_to, line_said, IsTextOf, IsRefusedAt, too_long, no_netlist}
 use Rattle.soc_top.specs.Printing.{Printed}
 use Rattle.soc_top.specs.Worlds.{World, most_loaded, IsLoaded}
-use Rattle.soc_top.specs.Building.{IsBuilt, WasHalted, on_line, unsaved, saved}
+use Rattle.soc_top.specs.Building.{IsBuiltFrom, WasHalted, on_line, unsaved, saved}
 use Rattle.soc_top.specs.Answers.{MapAnswered, ReadAnswered, VerilogAnswered, UsageAnswered, Answered, Completed, AnsweredBy, BuiltBy}
 use Rattle.soc_top.proofs.ReadRuns.{within_said, beyond_said}
 

@@ -17,7 +17,7 @@ use Rattle.soc_top.specs.Netlists.{build_failure, IsNetlistOfFile, IsVerilogOf}
 use Rattle.soc_top.specs.Printing.{Printed}
 use Rattle.soc_top.specs.Words.{BuildFiles}
 use Rattle.soc_top.specs.Worlds.{World, world, most_loaded, IsLoaded, WasCutOff, NothingPrinted}
-use Rattle.soc_top.specs.Building.{not_loaded, fails, IsBuilt, on_line, unsaved, saved, IsSaved, HasNoMemory, SavesNetlist, BuildRuns, no_memory, refused, built}
+use Rattle.soc_top.specs.Building.{not_loaded, fails, IsBuiltFrom, on_line, unsaved, saved, IsSaved, HasNoMemory, SavesNetlist, BuildRuns, no_memory, refused, built}
 use Rattle.soc_top.specs.Answers.{VerilogAnswered}
 
 -- ---- the parts of a run
@@ -87,7 +87,7 @@ module _ (rules : List StatedRule) (names : BuildFiles) (first loaded : FilesSee
         rw r (on_line (same_all same) (part.0, (line_of (answer_of (Some failure)), fails bytes failure l f refl, part.1)))
 
     module _ (netlist : Netlist) (text : List ℕ) (passes : build_failure rules bytes ≡ None) (is : IsVerilogOf rules bytes netlist text) where
-      is_built : IsBuilt rules names.design (world first out) netlist text
+      is_built : IsBuiltFrom rules names.design (world first out) netlist text
       is_built = record { bytes = bytes; loaded = l; passes = passes; is = is }
 
       on_part : result ≡ WriteFailed

@@ -1,5 +1,5 @@
--- The answers of each command: when each may come, what was printed, and what the files hold. `map` and `read` change no
--- file.
+-- The answers of each command: when each may come, what was printed, and what the files hold. `map` and `read` change
+-- no file.
 use Rattle.std.specs.Prelude.{ℕ, ◌≡◌, ◌⊎◌, List, Option, take, Some, None}
 use Rattle.dip_lists.specs.First.{Failure, failure_of}
 use Rattle.dip_io.specs.Outside.{LoadsRose, Rose, SameContent, Saves, SavesRose, Writes}
@@ -14,7 +14,7 @@ use Rattle.soc_top.specs.Designs.{first_failure, answer_of, called_for, map_of, 
 use Rattle.soc_top.specs.Texts.{most_text_loaded, said_by, answer_to, line_said, IsTextOf, IsRefusedAt}
 use Rattle.soc_top.specs.Netlists.{build_failure, IsVerilogOf}
 use Rattle.soc_top.specs.Worlds.{World, most_loaded, IsLoaded, WasNotLoaded, Due, WasCutOff, NothingPrinted}
-use Rattle.soc_top.specs.Building.{IsBuilt, WasHalted}
+use Rattle.soc_top.specs.Building.{IsBuiltFrom, WasHalted}
 
 -- ---- `map` on a design file of this name, answer by answer
 
@@ -53,12 +53,12 @@ ReadAnswered name before after (Refused check subject) = ⊥
 
 -- ---- `verilog` on a design file and a text of these names, answer by answer
 
--- The line of a netlist comes where the loaded design fails no check and the text holds what spells the netlist, which is
--- that of the design's plan; a refusal where this is the first check that the design fails. Only then has the text
--- changed, or where saving it or writing the line has failed.
+-- The line of a netlist comes where the loaded design fails no check and the text holds what spells the netlist, which
+-- is that of the design's plan; a refusal where this is the first check that the design fails. The text changes in the
+-- first case alone, or where saving it, or writing the line behind that, has failed.
 unfoldable pub VerilogAnswered : List StatedRule → BuildFiles → World → World → Status → Type 0
 VerilogAnswered rules names before after Done =
-    (netlist : Netlist) × ((text : List ℕ) × IsBuilt rules names.design before netlist text
+    (netlist : Netlist) × ((text : List ℕ) × IsBuiltFrom rules names.design before netlist text
     × Saves names.text text before.files after.files × Writes (netlist_line netlist) before.out after.out)
 VerilogAnswered rules names before after (Refused check subject) =
     (bytes : List ℕ) × IsLoaded most_loaded names.design before bytes
@@ -100,8 +100,8 @@ abbrev pub AnsweredBy : Status → List ℕ → World → World → Status → T
 AnsweredBy wanted text before after result =
     (result ≡ Memory) ⊎ (result ≡ WriteFailed) ⊎ ((result ≡ wanted) × Writes text before.out after.out)
 
--- what the bytes of a design file call for where a netlist is to be built: the line of the first check that they fail, and
--- no file has changed; or a text that spells a netlist of the design's plan, saved whole, and the netlist's line
+-- what the bytes of a design file call for where a netlist is to be built: the line of the first check that they fail,
+-- and no file has changed; or a text that spells a netlist of the design's plan, saved whole, and the netlist's line
 abbrev pub IsMade : List StatedRule → List ℕ → List ℕ → Option Failure → World → World → Type 0
 IsMade rules name bytes (Some failure) before after =
     SameContent before.files after.files × Writes (line_of (answer_of (Some failure))) before.out after.out

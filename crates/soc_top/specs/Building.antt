@@ -25,7 +25,7 @@ pub data DueLine (rules : List StatedRule) (name : List ℕ) (before after : Wor
       → DueLine rules name before after line
 
 -- a text of a netlist of a design file that was loaded and fails no check
-pub record IsBuilt (rules : List StatedRule) (name : List ℕ) (before : World) (netlist : Netlist)
+pub record IsBuiltFrom (rules : List StatedRule) (name : List ℕ) (before : World) (netlist : Netlist)
     (text : List ℕ) : Type 0 where
   pub bytes : List ℕ
   pub loaded : IsLoaded most_loaded name before bytes
@@ -38,10 +38,10 @@ pub record IsBuilt (rules : List StatedRule) (name : List ℕ) (before : World) 
 pub data WasHalted (rules : List StatedRule) (names : BuildFiles) (before after : World) : Type 0 where
   on_line : SameContent before.files after.files → WasCutOff (DueLine rules names.design before after) before after
       → WasHalted rules names before after
-  unsaved : (netlist : Netlist) (text : List ℕ) → IsBuilt rules names.design before netlist text
+  unsaved : (netlist : Netlist) (text : List ℕ) → IsBuiltFrom rules names.design before netlist text
       → SavesRose names.text before.files after.files → NothingPrinted before after
       → WasHalted rules names before after
-  saved : (netlist : Netlist) (text : List ℕ) → IsBuilt rules names.design before netlist text
+  saved : (netlist : Netlist) (text : List ℕ) → IsBuiltFrom rules names.design before netlist text
       → Saves names.text text before.files after.files → WasCutOff (λ line. line ≡ netlist_line netlist) before after
       → WasHalted rules names before after
 

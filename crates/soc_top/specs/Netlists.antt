@@ -23,7 +23,7 @@ checks_to_build rules bytes = file_checks bytes ++ build_checks_of rules (stated
 unfoldable pub build_failure : List StatedRule → List ℕ → Option Failure
 build_failure rules bytes = first_failing (checks_to_build rules bytes)
 
--- a netlist of the design that a file states: in each cycle it is the network of the plan of its only solution
+-- a netlist of the design that a file states, which implements the plan of its only solution
 pub record IsNetlistOfFile (rules : List StatedRule) (bytes : List ℕ) (netlist : Netlist) : Type 0 where
   pub design : Design
   pub stated : stated_design bytes ≡ Some design
