@@ -1,5 +1,5 @@
-//! The whole netlist of a plan: the wires of a whole netlist, and that a netlist with such wires is the network
-//! of its plan.
+//! The whole netlist of a plan: `build`, the wires of a whole netlist, and that one with such wires is the
+//! network of its plan.
 #![tactic(auto)]
 
 mod laws;
