@@ -1,11 +1,10 @@
 -- Where check 19 passes, each leaf of a design's plan is one for which there is hardware.
-use Rattle.std.proofs.Common.{◌≡◌, ℕ, ◌+◌, Bool, true, false, not, cond, List, [], ◌∷◌, ◌++◌, IsTrue, Option, Some, None, refl, sym, subst}
+use Rattle.std.proofs.Common.{◌≡◌, ℕ, ◌+◌, Bool, true, false, not, cond, List, [], ◌∷◌, IsTrue, Option, Some, None, refl, sym, subst}
 use Rattle.std.specs.Prelude.{All}
 use Rattle.std.proofs.lemmas.List.Elements.{All-nil, All-cons, All-append}
 use Rattle.dip_lists.specs.First.{check, first, first_failing, places}
 use Rattle.tl_params.specs.Operations.{is_nexus}
 use Rattle.tl_params.specs.declared.ops.Template.{Template}
-use Rattle.tl_params.specs.declared.ops.Template.TheVariants.{Buffer, Width, Fragmenter, Shrinker, Xbar}
 use Rattle.tl_edge.specs.declared.plan.Leaf.{Leaf}
 use Rattle.dip_graph.specs.declared.design.NodeKind.{NodeKind}
 use Rattle.dip_graph.specs.declared.design.NodeKind.TheVariants.{Source, Sink, Ruled}
@@ -14,9 +13,8 @@ use Rattle.dip_graph.specs.declared.design.Design.{Design}
 use Rattle.dip_graph.specs.declared.edges.Edge.{Edge}
 use Rattle.dip_graph.specs.Edges.{edges_to, edges_from}
 use Rattle.dip_rule.specs.Stated.{StatedRule, template_of}
-use Rattle.dip_negotiate.specs.declared.solution.Solution.{Solution}
 use Rattle.dip_plan.specs.declared.accepted.Accepted.{Accepted}
-use Rattle.dip_plan.specs.DesignPlans.{leaf_of, leaves_between, built_leaves, kind_leaves, leaves_from, plan_of, accepted_of}
+use Rattle.dip_plan.specs.DesignPlans.{leaf_of, leaves_between, built_leaves, kind_leaves, leaves_from, accepted_of}
 use Rattle.net_leaves.specs.Buildable.{is_buildable, IsBuildable}
 use Rattle.soc_build.specs.Kinds.{is_unbuilt, kind_is_unbuilt, unbuilt_nodes, hardware_checks, BuildableLaw}
 

@@ -1,24 +1,23 @@
 -- The answers of the commands as those of a run, whatever its words.
-use Rattle.std.proofs.Common.{ℕ, ◌≡◌, ◌≢◌, ◌⊎◌, inl, inr, List, [], ◌∷◌, Bool, true, false, Option, Some, None, Result, Ok, Err, refl, sym, subst, ◌∙◌, ap, take, drop, length}
+use Rattle.std.proofs.Common.{ℕ, ◌≡◌, ◌≢◌, ◌⊎◌, inl, inr, List, [], ◌∷◌, Bool, true, false, Option, Some, None, Ok, Err, refl, sym, subst, ◌∙◌, ap, take, drop, length}
 use Rattle.std.specs.Prelude.{◌&&◌, cond, codes}
 use Rattle.std.specs.Option.{option_map}
 use Rattle.std.specs.Str.{bytes_eq}
 use Rattle.std.proofs.lemmas.Slice.Eq.{bytes_eq-Decides}
-use Rattle.dip_lists.specs.First.{Failure, failure_of}
-use Rattle.dip_io.specs.Outside.{Told, AreFirst, LoadsRose, Rose, SavesRose, Writes}
+use Rattle.dip_lists.specs.First.{failure_of}
+use Rattle.dip_io.specs.Outside.{Told, AreFirst, LoadsRose, Rose, SavesRose}
 use Rattle.dip_rule.specs.Stated.{StatedRule}
-use Rattle.net_cells.specs.declared.netlist.Netlist.{Netlist}
 use Rattle.ver_text.proofs.Spells.{spelled_read}
 use Rattle.soc_report.specs.Lines.{line_of}
 use Rattle.soc_report.specs.declared.status.Status.{Status}
 use Rattle.soc_report.specs.declared.status.Status.TheVariants.{Done, Refused, Usage, ReadFailed, WriteFailed, Memory, BadText}
-use Rattle.soc_top.specs.Words.{BuildFiles, is_file_name, file_of, files_of, design_named, text_named, build_named, saved_named, HaveNoForm}
+use Rattle.soc_top.specs.Words.{BuildFiles, is_file_name, file_of, files_of, design_named, text_named, build_named, saved_named}
 use Rattle.soc_top.specs.Designs.{first_failure, answer_of, called_for}
 use Rattle.soc_top.specs.Netlists.{build_failure, IsVerilogOf}
-use Rattle.soc_top.specs.Texts.{most_text, most_text_loaded, said_by, answer_to, line_said, IsTextOf, IsRefusedAt, too_long, no_netlist}
+use Rattle.soc_top.specs.Texts.{most_text_loaded, said_by, answer_to, line_said, IsRefusedAt, too_long, no_netlist}
 use Rattle.soc_top.specs.Printing.{Printed}
 use Rattle.soc_top.specs.Worlds.{World, most_loaded, IsLoaded}
-use Rattle.soc_top.specs.Building.{IsBuiltFrom, WasHalted, on_line, unsaved, saved}
+use Rattle.soc_top.specs.Building.{WasHalted, on_line, unsaved, saved}
 use Rattle.soc_top.specs.Answers.{MapAnswered, ReadAnswered, VerilogAnswered, UsageAnswered, Answered, Completed, AnsweredBy, BuiltBy}
 use Rattle.soc_top.proofs.ReadRuns.{within_said, beyond_said}
 

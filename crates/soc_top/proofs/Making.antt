@@ -1,5 +1,5 @@
 -- The checks of a file's bytes before those of the design whose netlist is to be built.
-use Rattle.std.proofs.Common.{◌≡◌, ◌∙◌, ap, sym, subst, None, List, ℕ, Option, Some, Result, Ok, Err}
+use Rattle.std.proofs.Common.{◌≡◌, sym, subst, None, List, ℕ, Option, Some, Result, Ok, Err}
 use Rattle.std.specs.Prelude.{IfOk, IfErr}
 use Rattle.dip_lists.specs.First.{Failure, failure_of, first_failing}
 use Rattle.dip_graph.specs.declared.design.Design.{Design}

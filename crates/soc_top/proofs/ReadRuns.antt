@@ -1,10 +1,9 @@
 -- A run of `read` on what was loaded, or on a load that failed, as the answer of the command.
-use Rattle.std.proofs.Common.{ℕ, ◌≡◌, ◌≤◌, ◌<◌, ◌⊎◌, inl, inr, List, length, Bool, true, false, Result, Ok, Err, refl, sym, ap, ◌∙◌, arith}
+use Rattle.std.proofs.Common.{ℕ, ◌≡◌, ◌≤◌, ◌<◌, ◌⊎◌, inl, inr, List, length, Bool, true, false, Result, Ok, Err, refl, sym, ap, arith}
 use Rattle.std.specs.Prelude.{nat_lt, cond}
 use Rattle.dip_io.specs.Outside.{LoadsRose}
 use Rattle.net_cells.specs.declared.netlist.Netlist.{Netlist}
 use Rattle.ver_text.specs.Reading.{read_text}
-use Rattle.ver_text.specs.TextLaw.{Spells}
 use Rattle.ver_text.proofs.Sound.{read_spells}
 use Rattle.ver_text.proofs.Spells.{spelled_read}
 use Rattle.soc_report.specs.Lines.{line_of}

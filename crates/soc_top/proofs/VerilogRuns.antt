@@ -1,8 +1,8 @@
 -- A run of `verilog` on what was loaded, or on a load that failed, as the answer of the command.
-use Rattle.std.proofs.Common.{ℕ, ◌≡◌, ◌∙◌, ◌⊎◌, inl, inr, List, Option, Some, None, Result, Ok, Err, refl, sym, ap, arith}
+use Rattle.std.proofs.Common.{ℕ, ◌≡◌, ◌∙◌, ◌⊎◌, inl, inr, List, Some, None, Ok, refl, ap, arith}
 use Rattle.std.specs.Option.{option_map}
 use Rattle.dip_lists.specs.First.{Failure, failure_of}
-use Rattle.dip_io.specs.Outside.{FilesSeen, OutSeen, LoadsRose, NoneFell, SameContent, Saves, SavesRose, Rose, WritesPart}
+use Rattle.dip_io.specs.Outside.{FilesSeen, OutSeen, LoadsRose, NoneFell, SameContent, Saves, SavesRose, Rose}
 use Rattle.dip_rule.specs.Stated.{StatedRule}
 use Rattle.net_cells.specs.declared.netlist.Netlist.{Netlist}
 use Rattle.ver_text.specs.Reading.{read_text}
