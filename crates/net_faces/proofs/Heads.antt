@@ -21,6 +21,7 @@ use Rattle.net_queue.specs.Rows.{row_widths}
 use Rattle.net_queue.proofs.Opening.{open_adds}
 use Rattle.net_parts.specs.Wired.{no_edge_wires, wires_of_edge}
 use Rattle.net_leaves.specs.OpenEdges.{AreOpenEdges}
+use Rattle.net_leaves.proofs.Later.{edge_kept}
 use Rattle.net_faces.specs.Showing.{AreSinkRows, AreSourceRows, ShowsHead, ShowsSink, ShowsSource}
 use Rattle.net_faces.proofs.Later.{sink_later, source_later}
 use Rattle.net_faces.proofs.Naming.{taken_more}
@@ -73,20 +74,6 @@ sink_shown old new edge wires head row o g l w h e =
 
 -- ---- open edges
 
-edge_adds : (old new : Built) (edge : PlanEdge) (wires : EdgeWires) → Adds old new → IsEdge old edge wires → IsEdge new edge wires
-edge_adds old new edge wires g h = record {
-  a = open_adds old new wires.a g h.a;
-  d = open_adds old new wires.d g h.d;
-  a_widths = h.a_widths;
-  d_widths = h.d_widths;
-}
-
-pub edges_adds : (old new : Built) (plan : Plan) (edges : List EdgeWires) → Adds old new → AreOpenEdges old plan edges → AreOpenEdges new plan edges
-edges_adds old new plan edges g h = record {
-  long = h.long;
-  each = λ edge l. edge_adds old new (edge_at plan edge) (wires_of_edge edges edge) g (h.each edge l);
-}
-
 pub wires_read : (b : Built) (plan : Plan) (edges : List EdgeWires) (place : ℕ) (wires : EdgeWires) → AreOpenEdges b plan edges → place < length plan.edges → wires ≡ get_or edges place wires → wires ≡ wires_of_edge edges place
 wires_read b plan edges place wires h l e = e ∙ get_or_default edges place wires no_edge_wires (omega (arith, h.long, l))
 
@@ -95,7 +82,7 @@ pub edge_open : (old new : Built) (plan : Plan) (edges : List EdgeWires) (place 
 edge_open old new plan edges place edge wires h g l e f =
     subst (λ (x : PlanEdge). IsEdge new x wires) (sym e)
     (subst (IsEdge new (edge_at plan place)) (sym (wires_read old plan edges place wires h l f))
-    (edge_adds old new (edge_at plan place) (wires_of_edge edges place) g (h.each place l)))
+    (edge_kept old new (edge_at plan place) (wires_of_edge edges place) g.later g.undriven (h.each place l)))
 
 -- ---- one port after another
 

@@ -34,6 +34,7 @@ use Rattle.net_ports.proofs.RowSteps.{adds_both_inputs, adds_no_inputs, none_rea
 use Rattle.net_parts.specs.declared.types.EndWires.{EndWires}
 use Rattle.net_parts.specs.Wired.{no_end, wires_of_port}
 use Rattle.net_ends.specs.Ends.{AreOfferEnds, IsEnd}
+use Rattle.net_ends.proofs.Later.{offers_later}
 use Rattle.net_faces.specs.PortRows.{sink_row, source_row}
 use Rattle.net_faces.specs.Steps.{IsSoundPort, ReadsInputs}
 use Rattle.net_faces.proofs.Naming.{flat_more, taken_more}
@@ -218,24 +219,10 @@ ends_none b widths = record { long = refl; each = λ port at e. absurd (let q : 
 pub ends_begun : (b : Built) (widths : PlanPort → List ℕ) (ends : List EndWires) → ends ≡ [] → AreOfferEnds b widths [] ends
 ends_begun b widths ends e = subst (AreOfferEnds b widths []) (sym e) (ends_none b widths)
 
-end_later : (old new : Built) (widths : List ℕ) (port : EndWires) → Later old new → IsEnd old widths port → IsEnd new widths port
-end_later old new widths port g h = record {
-  valid = bit_later old new port.put.valid g h.valid;
-  take = bit_later old new port.take g h.take;
-  long = h.long;
-  items = widths_later old new widths port.put.items g h.items;
-}
-
-pub ends_later : (old new : Built) (widths : PlanPort → List ℕ) (all : List PlanPort) (ends : List EndWires) → Later old new → AreOfferEnds old widths all ends → AreOfferEnds new widths all ends
-ends_later old new widths all ends g h = record {
-  long = h.long;
-  each = λ port at e. end_later old new (widths at) (wires_of_port ends port) g (h.each port at e);
-}
-
 pub ends_more : (mid new : Built) (widths : PlanPort → List ℕ) (all : List PlanPort) (k : ℕ) (at : PlanPort) (ends more : List EndWires) (end : EndWires) → k < length all → at ≡ get_or all k at
     → Later mid new → AreOfferEnds mid widths (take k all) ends → IsEnd new (widths at) end → more ≡ ends ++ end ∷ [] → AreOfferEnds new widths (take (k + 1) all) more
 ends_more mid new widths all k at ends more end l e g h i q =
-    let front : AreOfferEnds new widths (take k all) ends = ends_later mid new widths (take k all) ends g h in
+    let front : AreOfferEnds new widths (take k all) ends = offers_later mid new widths (take k all) ends g h in
     subst (AreOfferEnds new widths (take (k + 1) all)) (sym q)
     (subst (λ (ps : List PlanPort). AreOfferEnds new widths ps (ends ++ end ∷ [])) (sym (taken_more all k at l e)) (record {
       long = length_push ends end ∙ ap (λ (n : ℕ). n + 1) h.long ∙ sym (length_push (take k all) at);

@@ -28,7 +28,7 @@ use Rattle.net_joins.specs.declared.ends.Side.{Side}
 use Rattle.net_joins.specs.declared.ends.Side.TheVariants.{Ins, Outs}
 use Rattle.net_joins.specs.Closing.{ArePutInto}
 use Rattle.net_joins.specs.Finding.{HaveEnds, IsEndFor, IsGiverEnd, IsTakerEnd, LeafHas, PortHas, edges_on, end_with}
-use Rattle.net_joins.proofs.Later.{put_into_later}
+use Rattle.net_leaves.proofs.Later.{put_later}
 
 -- ---- the edges of a leaf
 
@@ -95,7 +95,7 @@ taker_fits b plan edges leaves sinks edge (Sink port) h p (at, is, on) = record 
 }
 
 end_later : (old new : Built) (onto : Queue) (wires : EndWires) → Later old new → IsEndFor old onto wires → IsEndFor new onto wires
-end_later old new onto wires g h = record { put = put_into_later old new onto wires.put g h.put; take = bit_later old new wires.take g h.take }
+end_later old new onto wires g h = record { put = put_later old new onto wires.put g h.put; take = bit_later old new wires.take g h.take }
 
 -- so the wires of whatever gives do, and still do later
 pub giver_stays : (old new : Built) (plan : Plan) (edges : List EdgeWires) (leaves : List LeafWires) (sources : List EndWires) (edge : ℕ) (on : EdgeWires) (wires : EndWires) → IsSound plan → edge < length plan.edges

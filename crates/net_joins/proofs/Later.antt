@@ -4,14 +4,10 @@ use Rattle.tl_edge.specs.declared.plan.Plan.{Plan}
 use Rattle.net_build.specs.declared.types.Wire.{Wire}
 use Rattle.net_build.specs.Built.{Built}
 use Rattle.net_build.specs.Values.{Later}
-use Rattle.net_build.proofs.Steps.{bit_later}
 use Rattle.net_queue.specs.declared.types.EdgeWires.{EdgeWires}
 use Rattle.net_queue.specs.declared.types.LeafWires.{LeafWires}
-use Rattle.net_queue.specs.declared.types.Put.{Put}
 use Rattle.net_queue.specs.declared.types.Queue.{Queue}
-use Rattle.net_queue.specs.Leaves.{IsPutInto}
 use Rattle.net_queue.specs.Queues.{IsListOfTwo}
-use Rattle.net_queue.proofs.Alike.{alike_later}
 use Rattle.net_parts.specs.declared.types.EndWires.{EndWires}
 use Rattle.net_parts.specs.Wired.{IsClosedEdge, giver_end, taker_end, wires_of_edge}
 use Rattle.net_joins.specs.Closing.{AreClosed}
@@ -38,11 +34,4 @@ pub closed_later : (old new : Built) (plan : Plan) (edges : List EdgeWires) (lea
 closed_later old new plan edges leaves sources sinks count g h = record {
   each = λ edge giver taker below gives takes.
       closed_edge_later old new (wires_of_edge edges edge) (giver_end leaves sources giver) (taker_end leaves sinks taker) g (h.each edge giver taker below gives takes);
-}
-
--- what is put into a queue can still be
-pub put_into_later : (old new : Built) (queue : Queue) (put : Put) → Later old new → IsPutInto old queue put → IsPutInto new queue put
-put_into_later old new queue put g h = record {
-  valid = bit_later old new put.valid g h.valid;
-  items = alike_later old new queue.head put.items g h.items;
 }

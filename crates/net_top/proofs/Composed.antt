@@ -63,15 +63,6 @@ laid_later old new plan ports laid l h = record {
   sinks = sink_ends_later old new plan.sinks laid.edges ports.sinks laid.sinks l h.sinks;
 }
 
--- registers are opened, and then wires come
-pub opens_adds : (old mid new : Built) (rs : List ℕ) → Opens old mid rs → Adds mid new → Opens old new rs
-opens_adds old mid new rs o a = record {
-  later = later_later old mid new o.later a.later;
-  inputs = a.inputs ∙ o.inputs;
-  outputs = a.outputs ∙ o.outputs;
-  undriven = a.undriven ∙ o.undriven;
-}
-
 -- queues, leaves and gates, made one after another
 pub laid_of : (b2 b3 b4 : Built) (plan : Plan) (ports : PortWires) (laid : Laid) (one two three : List EdgeWires) (offered replied : List EndWires) → one ≡ laid.edges → two ≡ laid.edges → three ≡ laid.edges → offered ≡ ports.sources → replied ≡ ports.sinks
     → Adds b2 b3 → Adds b3 b4 → AreLeavesInWires b2 plan one (length plan.leaves) laid.leaves → AreSourceEnds b3 plan.sources two offered laid.sources → AreSinkEnds b4 plan.sinks three replied laid.sinks → IsLaid b4 plan ports laid

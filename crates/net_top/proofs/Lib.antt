@@ -2,3 +2,4 @@ pub mod Offering
 pub mod Sights
 pub mod Networks
 pub mod Composed
+pub mod Fitting

@@ -1,3 +1,4 @@
 pub mod Laying
 pub mod Whole
 pub mod WholeLaw
+pub mod Runs

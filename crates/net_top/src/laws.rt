@@ -1,5 +1,7 @@
+ghost use Rattle.net_top.specs.Runs.{RunsLaw};
 ghost use Rattle.net_top.specs.WholeLaw.{WholeLaw};
 
+use net_cells::runs_law;
 use net_cycle::buffer_at_law;
 use net_parts::wired_law;
 
@@ -10,4 +12,12 @@ pub fn whole_law()
 {
     wired_law();
     buffer_at_law();
+}
+
+/// A well-formed netlist without a loop that has the ports of a plan has exactly one run for each list of
+/// offers whose beats fit the wires of their ports.
+pub fn port_runs_law()
+    ensures { RunsLaw }
+{
+    runs_law();
 }

@@ -11,8 +11,9 @@ ghost use Rattle.net_ends.specs.Ends.{AreOfferEnds, sink_widths, source_widths};
 ghost use Rattle.net_leaves.specs.Buildable.{IsBuildable};
 ghost use Rattle.net_leaves.specs.OpenEdges.{AreOpenEdges, all_registers};
 ghost use Rattle.net_top.specs.Laying.{IsLaid};
+ghost use Rattle.net_top.specs.Runs.{HasRuns};
 
-use crate::laws::whole_law;
+use crate::laws::{port_runs_law, whole_law};
 use crate::types::Laid;
 use dip_lists::Memory;
 use dip_sets::Name;
@@ -82,6 +83,7 @@ pub fn build(alloc: Global, plan: &Plan) -> Result<Netlist, Memory>
     ensures no_loop { IfOk result HasNoLoop }
     ensures resets { IfOk result Resets }
     ensures implements { IfOk result (λ netlist. Implements plan.now netlist) }
+    ensures runs { IfOk result (λ netlist. HasRuns plan.now netlist) }
 {
     let mut builder = begin(alloc, plan)?;
     let ports = open_ports(alloc, &mut builder, plan)?;
@@ -99,6 +101,7 @@ pub fn build(alloc: Global, plan: &Plan) -> Result<Netlist, Memory>
     )?;
     show_ports(alloc, &mut builder, plan, &shown)?;
     whole_law();
+    port_runs_law();
     let netlist = builder.finish()?;
     Ok(netlist)
 }

@@ -6,7 +6,7 @@ use Rattle.net_ports.proofs.RowSteps.{adds_both_inputs, read_later}
 use Rattle.net_ends.specs.Ends.{source_widths}
 use Rattle.net_faces.specs.PortRows.{source_row}
 use Rattle.net_faces.proofs.Naming.{may_after_inputs, may_front, may_open_all}
-use Rattle.net_faces.proofs.PortSteps.{ends_later}
+use Rattle.net_ends.proofs.Later.{offers_later}
 use Rattle.net_faces.proofs.inputs.open_ports.Goals as goal
 
 pub open_sources-requires-clause-apart : goal.open_sources-requires-clause-apart
@@ -29,7 +29,7 @@ returns-clause-adds c =
 
 pub returns-clause-sources : goal.returns-clause-sources
 returns-clause-sources c =
-    ends_later c.open_sources.new.builder c.open_sinks.new.builder (source_widths c.args.plan.now) c.args.plan.now.sources c.in_ok-sources.sources c.in_ok-sinks.ensures.reads.adds.later c.in_ok-sources.ensures.ends
+    offers_later c.open_sources.new.builder c.open_sinks.new.builder (source_widths c.args.plan.now) c.args.plan.now.sources c.in_ok-sources.sources c.in_ok-sinks.ensures.reads.adds.later c.in_ok-sources.ensures.ends
 
 pub returns-clause-read_sources : goal.returns-clause-read_sources
 returns-clause-read_sources c =

@@ -2,7 +2,8 @@ use Rattle.std.proofs.Common.{sym, subst}
 use Rattle.net_build.proofs.Steps.{bit_later}
 use Rattle.net_queue.specs.Queues.{IsOpen}
 use Rattle.net_joins.proofs.Closed.{drives_copy, fits_copy, list_copy}
-use Rattle.net_joins.proofs.Later.{list_later, put_into_later}
+use Rattle.net_joins.proofs.Later.{list_later}
+use Rattle.net_leaves.proofs.Later.{put_later}
 use Rattle.net_joins.proofs.Reopened.{both_driven, responses_open}
 use Rattle.net_joins.proofs.closing.close_edge.Goals as goal
 
@@ -28,7 +29,7 @@ close_queue-requires-2-clause-bits c =
 pub close_queue-requires-2-clause-items : goal.close_queue-requires-2-clause-items
 close_queue-requires-2-clause-items c =
     let l = c.in_ok-close_queue.ensures.drives.later in
-    fits_copy _ c.args.edge.now.d c.in_ok-d.d c.args.taker.now.put c.as_slice-responses.result.now c.in_ok-d.ensures c.as_slice-responses.ensures (put_into_later _ _ c.args.edge.now.d c.args.taker.now.put l c.requires.taker.put)
+    fits_copy _ c.args.edge.now.d c.in_ok-d.d c.args.taker.now.put c.as_slice-responses.result.now c.in_ok-d.ensures c.as_slice-responses.ensures (put_later _ _ c.args.edge.now.d c.args.taker.now.put l c.requires.taker.put)
 
 pub returns-clause-drives : goal.returns-clause-drives
 returns-clause-drives c =

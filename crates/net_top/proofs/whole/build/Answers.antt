@@ -57,3 +57,6 @@ returns-clause-implements c =
     (closed_of _ plan laid _ _ _ _ e c.as_slice.ensures c.as_slice-2.ensures c.as_slice-3.ensures c.in_ok-close_edges.ensures.closed)
     c.in_ok-show_ports.ensures)
     c.in_ok-netlist.ensures.netlist c.in_ok-netlist.ensures.carries
+
+pub returns-clause-runs : goal.returns-clause-runs
+returns-clause-runs c = c.port_runs_law.ensures c.args.plan.now c.in_ok-netlist.netlist c.in_ok-netlist.ensures.well_formed c.in_ok-netlist.ensures.no_loop (returns-clause-implements c).ports

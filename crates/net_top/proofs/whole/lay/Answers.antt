@@ -1,7 +1,8 @@
 use Rattle.net_build.proofs.Steps.{adds_adds, later_later}
 use Rattle.net_leaves.proofs.Later.{edges_kept}
 use Rattle.net_ends.proofs.Later.{offers_later}
-use Rattle.net_top.proofs.Composed.{laid_of, opens_adds}
+use Rattle.net_queue.proofs.Opening.{opens_adds}
+use Rattle.net_top.proofs.Composed.{laid_of}
 use Rattle.net_top.proofs.whole.lay.Goals as goal
 
 pub gate_sources-requires-clause-edges : goal.gate_sources-requires-clause-edges
