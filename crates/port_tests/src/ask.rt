@@ -61,8 +61,8 @@ fn is_small(request: &Request) -> bool
     has_param(request.op, request.param)
 }
 
-// Whether a request may be asked of a device that has these addresses.
-fn may_be_asked(addresses: &[u64], request: &Request, room: usize) -> bool
+/// Whether a request may be asked of a device that has these addresses.
+pub fn may_be_asked(addresses: &[u64], request: &Request, room: usize) -> bool
     ensures { IsTrue result → spec.MayBeAskedAt addresses.now request.now room }
 {
     if !is_shaped(request) {

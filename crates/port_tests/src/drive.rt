@@ -72,7 +72,7 @@ fn starts(alloc: Global) -> Result<Numbers, Memory> {
 }
 
 /// A driver of the four requests, with two ids and on a bus of four bytes.
-pub fn opened(alloc: Global) -> Result<Option<SourceDriver>, Memory> {
+pub fn driver_opened(alloc: Global) -> Result<Option<SourceDriver>, Memory> {
     let requests = requests(alloc)?;
     let starts = starts(alloc)?;
     if requests.len() != starts.len() || requests.len() > 10000 {

@@ -1,11 +1,16 @@
+ghost use Rattle.std.specs.Prelude.{IfOk};
+ghost use Rattle.tl_edge.specs.Messages.{AreBytes};
+
 use crate::ask::due;
 use dip_lists::{Bytes, Items, Memory};
 use std::alloc::Global;
-use tl_edge::{Flags, Request, has_data, has_flags};
+use tl_edge::{Flags, Request, ack_of, brings_data, has_data, has_flags};
 use tl_params::Op;
 
 /// The bytes of a number, the first the lowest.
-fn bytes(alloc: Global, count: usize, number: u64) -> Result<Bytes, Memory> {
+fn bytes(alloc: Global, count: usize, number: u64) -> Result<Bytes, Memory>
+    ensures { IfOk result AreBytes }
+{
     let mut list = Items::new(alloc);
     let mut rest = number;
     for _place in 0..count {
@@ -39,7 +44,9 @@ pub struct Fields {
 }
 
 /// The request with these fields.
-pub fn request_of(alloc: Global, fields: &Fields) -> Result<Request, Memory> {
+pub fn request_of(alloc: Global, fields: &Fields) -> Result<Request, Memory>
+    ensures { IfOk result (λ request. AreBytes request.payload) }
+{
     let size = fields.size.min(8);
     Ok(Request {
         op: fields.op,
@@ -61,4 +68,9 @@ pub fn number_of(bytes: &[u8]) -> u64 {
         place = place.wrapping_mul(256);
     }
     number
+}
+
+/// How many bytes the answer to a request has.
+pub fn room_of(request: &Request) -> usize {
+    due(brings_data(ack_of(request.op)), request.size.min(8))
 }

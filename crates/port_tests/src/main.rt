@@ -1,7 +1,12 @@
-//! Memories and a source driver, a case a line.
+//! Memories, a source driver and sink ports, a case a line.
 //!
 //! A line that begins with `cycle` passes a cycle of a driver that sends four requests: its number, in
 //! hexadecimal digits, `take`, `full` or `stall`, and the id with which a beat comes back, if one does.
+//!
+//! A line that begins with `sink` serves a sink port; its parts stand between `;`. The first part has the
+//! bytes of the bus, a delay and a role; another one is `ask` and the next request, an operation, a param, a
+//! size, an id, an address, flags and bytes, or a cycle with `-`, `a`, `d` or `ad`, the channels on which the
+//! port is stalled. The device is one of the test's own, in a box, at 64 addresses from 0x100 on.
 //!
 //! For any other line the program prepares a memory in a role at sixteen addresses, writes eight bytes, asks
 //! one request, and prints the line with the answer and the eight bytes afterwards. The line has the role, an
@@ -10,20 +15,25 @@
 #![tactic(auto)]
 
 mod ask;
+mod counting;
 mod drive;
 mod made;
+mod served;
 mod words;
 
 use crate::ask::{ask, due};
-use crate::drive::{opened, pass};
-use crate::made::{Fields, number_of, request_of};
-use crate::words::{Case, case_of, cycle_of};
+use crate::counting::Counting;
+use crate::drive::{driver_opened, pass};
+use crate::made::{Fields, number_of, request_of, room_of};
+use crate::served::{do_parts, opened};
+use crate::words::{Case, case_of, cycle_of, opening_of};
 use dip_lists::Memory;
 use sim_ports::{Cells, Device, SourceDriver};
 use std::alloc::Global;
+use std::cell::Cell;
 use std::fmt::Write;
 use std::io;
-use tl_edge::{Request, ack_of, brings_data};
+use std::rc::Rc;
 use tl_params::Op;
 
 // The sixteen addresses round an address.
@@ -47,11 +57,6 @@ fn eight(op: Op, address: u64, number: u64) -> Fields {
         flags: 0,
         number,
     }
-}
-
-// How many bytes the answer to a request has.
-fn room_of(request: &Request) -> usize {
-    due(brings_data(ack_of(request.op)), request.size.min(8))
 }
 
 // Room for so many bytes, which are not zeros.
@@ -86,7 +91,27 @@ fn answer(alloc: Global, case: &Case, text: &mut String) -> Result<(), Memory> {
     Ok(())
 }
 
-// Answers a line: a cycle of the driver, or a case.
+// Serves a sink port as a line says, whose first part says how it is opened.
+fn serve(
+    alloc: Global,
+    line: &str,
+    drops: &Rc<Cell<u32>>,
+    text: &mut String,
+) -> Result<(), Memory> {
+    let (first, parts) = line.split_once(';').unwrap_or((line, ""));
+    let device: Box<dyn Device> = Box::new(alloc, Counting::new(alloc, drops.clone()?))?;
+    let mut served = opened(alloc, opening_of(first.trim()), device)?;
+    do_parts(alloc, &mut served, parts, text)
+}
+
+// Serves a sink port, and writes how many devices were dropped meanwhile.
+fn serve_line(alloc: Global, line: &str, text: &mut String) -> Result<(), Memory> {
+    let drops = Rc::new(alloc, Cell::new(0))?;
+    serve(alloc, line, &drops, text)?;
+    Ok(write!(text, "\n  {} dropped", drops.get())?)
+}
+
+// Answers a line: a cycle of the driver, a sink port, or a case.
 fn answer_line(
     alloc: Global,
     driver: &mut SourceDriver,
@@ -97,6 +122,9 @@ fn answer_line(
     if word == "cycle" {
         let cycle = cycle_of(rest);
         return pass(driver, cycle.cycle, cycle.way, cycle.back, text);
+    }
+    if word == "sink" {
+        return serve_line(alloc, rest, text);
     }
     answer(alloc, &case_of(line), text)
 }
@@ -116,7 +144,7 @@ fn run(rt: &HostRuntime, driver: &mut SourceDriver) -> io::Result<()> {
 }
 
 fn main(rt: HostRuntime) -> io::Result<()> {
-    match opened(rt.alloc()) {
+    match driver_opened(rt.alloc()) {
         Ok(Some(mut driver)) => run(&rt, &mut driver),
         _ => println!(rt; "no driver"),
     }

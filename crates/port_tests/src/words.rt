@@ -1,6 +1,35 @@
+ghost use Rattle.std.specs.Prelude.{IsTrue};
+ghost use Rattle.tl_params.specs.Arguments.{is_width};
+
 use crate::made::Fields;
+use crate::served::Opening;
 use sim_ports::Role;
-use tl_params::Op;
+use tl_params::{Ack, Op};
+
+// The bytes of a bus.
+fn width_of(word: &str) -> u32
+    ensures { IsTrue (is_width result) }
+{
+    match word {
+        "1" => 1,
+        "2" => 2,
+        "4" => 4,
+        _ => 8,
+    }
+}
+
+/// How a line opens a sink port: the bytes of the bus, the delay and the role.
+pub fn opening_of(line: &str) -> Opening
+    ensures { IsTrue (is_width result.width) }
+{
+    let (width, rest) = line.split_once(' ').unwrap_or((line, ""));
+    let (delay, role) = rest.split_once(' ').unwrap_or((rest, ""));
+    Opening {
+        width: width_of(width),
+        delay: (number(delay) % 4096) as u32,
+        role: role_of(role),
+    }
+}
 
 // The value of a hexadecimal digit, 0 of another letter.
 fn digit(letter: u8) -> u64 {
@@ -108,5 +137,50 @@ pub fn case_of(line: &str) -> Case {
             flags: number(flags),
             number: number(operand),
         },
+    }
+}
+
+/// The word that names the operation of a response.
+pub fn ack_name(op: Ack) -> &'static str {
+    match op {
+        Ack::Ack => "ack",
+        Ack::AckData => "data",
+        Ack::HintAck => "hint",
+    }
+}
+
+/// What a part of a line says of a sink port.
+#[derive(Clone, Copy)]
+pub enum PortStep<'a> {
+    /// The next request.
+    Ask(Fields),
+    /// A cycle in which the port is stalled on the channels `a`, `d`, `ad` or none.
+    Cycle(Cycle<'a>),
+}
+
+// The fields of a request: operation, param, size, id, address, flags and bytes.
+fn fields_of(line: &str) -> Fields {
+    let (op, rest) = line.split_once(' ').unwrap_or((line, ""));
+    let (param, rest) = rest.split_once(' ').unwrap_or((rest, ""));
+    let (size, rest) = rest.split_once(' ').unwrap_or((rest, ""));
+    let (source, rest) = rest.split_once(' ').unwrap_or((rest, ""));
+    let (address, rest) = rest.split_once(' ').unwrap_or((rest, ""));
+    let (flags, bytes) = rest.split_once(' ').unwrap_or((rest, ""));
+    Fields {
+        op: op_of(op),
+        param: (number(param) % 256) as u32,
+        size: (number(size) % 256) as u32,
+        source: (number(source) % 4096) as u32,
+        address: number(address),
+        flags: number(flags),
+        number: number(bytes),
+    }
+}
+
+/// What a part says: `ask` and the fields of a request, or a cycle.
+pub fn port_step_of(part: &str) -> PortStep<'_> {
+    match part.strip_prefix("ask ") {
+        Some(fields) => PortStep::Ask(fields_of(fields)),
+        None => PortStep::Cycle(cycle_of(part)),
     }
 }

@@ -7,3 +7,5 @@ pub mod Legality
 pub mod Legally
 pub mod Naming
 pub mod PortsThere
+pub mod StimulusWorked
+pub mod SettingsSaid

@@ -13,3 +13,4 @@ pub mod RulesLaw
 pub mod Stimuli
 pub mod PortsLaw
 pub mod SettingsLaw
+pub mod StimulusExamples

@@ -19,6 +19,8 @@ mod tables;
 mod top;
 
 pub use fault::StimFault;
-pub use laws::{stimulus_ports_law, stimulus_rules_law, stimulus_settings_law};
+pub use laws::{
+    stimulus_examples_law, stimulus_ports_law, stimulus_rules_law, stimulus_settings_law,
+};
 pub use read::{MOST_STIMULUS_BYTES, Stimulus};
 pub use top::read_stimulus;

@@ -4,6 +4,7 @@ ghost use Rattle.tl_edge.specs.SoundPlans.{IsSound};
 ghost use Rattle.dip_graph.specs.WellStated.{IsWellStated};
 ghost use Rattle.dip_plan.specs.Standing.{StandsTo};
 ghost use Rattle.soc_stimulus.specs.Lines.{IsLineOf};
+ghost use Rattle.soc_stimulus.specs.Requests.{IsLegalThere};
 ghost use Rattle.soc_stimulus.specs.Stimuli as spec;
 
 use crate::StimFault;
@@ -32,6 +33,8 @@ pub fn read_stimulus(
     ensures ok { IfOk result (λ stimulus. spec.stimulus_for design.now accepted.now bytes.now ≡ Some
         stimulus) }
     ensures legal { IfOk result (λ stimulus. All (spec.IsLegalAsked accepted.now.plan) stimulus.requests) }
+    ensures emitted { IfOk result (λ stimulus. All (IsLegalThere accepted.now.plan.sources
+        accepted.now.solution.down accepted.now.solution.up) stimulus.requests) }
     ensures passes { IfOk result (λ _. first_failing (spec.rules_for design.now accepted.now bytes.now) ≡
         None) }
     ensures err { IfErr result (IsLineOf (first_failing (spec.rules_for design.now accepted.now

@@ -1,5 +1,5 @@
-use Rattle.soc_stimulus.proofs.Counted.{counted}
+use Rattle.soc_stimulus.proofs.SettingsSaid.{settings_law}
 use Rattle.soc_stimulus.proofs.laws.stimulus_settings_law.Goals as goal
 
 pub returns : goal.returns
-returns c = counted
+returns c = settings_law
