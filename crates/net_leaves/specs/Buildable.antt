@@ -1,5 +1,5 @@
 -- Which plans can be built: those for each of whose leaves there is hardware.
-use Rattle.std.specs.Prelude.{All, Bool, true, false, IsTrue}
+use Rattle.std.specs.Prelude.{◌≡◌, All, Bool, true, false, IsTrue}
 use Rattle.tl_params.specs.declared.ops.Template.{Template}
 use Rattle.tl_params.specs.declared.ops.Template.TheVariants.{Buffer, Width, Fragmenter, Shrinker, Xbar}
 use Rattle.tl_edge.specs.declared.plan.Leaf.{Leaf}
@@ -16,3 +16,7 @@ is_buildable Xbar = false
 -- there is hardware for each leaf of a plan
 abbrev pub IsBuildable : Plan → Type 0
 IsBuildable plan = All (λ (leaf : Leaf). IsTrue (is_buildable leaf.template)) plan.leaves
+
+-- every plan of buffers alone, also one without a leaf, can be built
+abbrev pub BuffersLaw : Type 0
+BuffersLaw = (plan : Plan) → All (λ (leaf : Leaf). leaf.template ≡ Buffer) plan.leaves → IsBuildable plan

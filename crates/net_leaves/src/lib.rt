@@ -3,8 +3,10 @@
 
 mod buildable;
 mod edges;
+mod laws;
 mod leaves;
 
 pub use buildable::is_buildable;
 pub use edges::open_edges;
+pub use laws::buffers_law;
 pub use leaves::build_leaves;

@@ -3,3 +3,4 @@ pub mod Sights
 pub mod Networks
 pub mod Composed
 pub mod Fitting
+pub mod Again

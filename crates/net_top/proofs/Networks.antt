@@ -33,6 +33,7 @@ use Rattle.net_build.specs.Numbering.{KeepsValues, at_wires, finished, net_of, o
 use Rattle.net_build.specs.Registers.{AreWires}
 use Rattle.net_build.specs.Values.{HasInputs, Solves}
 use Rattle.net_build.proofs.Nets.{keeps_widths}
+use Rattle.net_build.proofs.Places.{get_mapped}
 use Rattle.net_ports.specs.Implementing.{AreOffered, AreOffersAt, Implements, input_values, shown_values, outputs_by_cycle, outputs_of, sink_shows, sink_values, source_shows, source_values}
 use Rattle.net_ports.specs.Ports.{HasPorts, shown_port, sink_outputs, source_outputs}
 use Rattle.net_ports.specs.Rows.{values_from, widths_of_ports}
@@ -74,11 +75,6 @@ some_in : {A : Type 0} (xs : List A) (k : ℕ) → k < length xs → (x : A) × 
 some_in [] k l = absurd (omega (arith, l))
 some_in (x ∷ xs) zero l = (x, refl)
 some_in (x ∷ xs) (suc k) l = some_in xs k (omega (arith, l))
-
-get_mapped : {A C : Type 0} (f : A → C) (xs : List A) (k : ℕ) (x : A) → slice_get xs k ≡ Some x → slice_get (map f xs) k ≡ Some (f x)
-get_mapped f [] k x e = absurd (let h : None ≡ Some x = e in cc)
-get_mapped {C = C} f (y ∷ xs) zero x e = ap (λ (z : C). Some z) (ap f (let h : y ≡ x = cc in h))
-get_mapped f (y ∷ xs) (suc k) x e = get_mapped f xs k x e
 
 module _ (law : BufferAtLaw) (plan : Plan) (sound : IsSound plan) (buildable : IsBuildable plan) where
   kind : (leaf : ℕ) (at : Leaf) → slice_get plan.leaves leaf ≡ Some at → at.template ≡ Buffer

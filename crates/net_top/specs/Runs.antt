@@ -1,4 +1,4 @@
--- That the netlist of a plan has the runs of which it is said what they show.
+-- That the netlist of a plan has the runs of which it is said what they show, and shows the same after each reset.
 use Rattle.std.specs.Prelude.{◌≡◌, ℕ, List, length, map, All, Some, slice_get}
 use Rattle.tl_edge.specs.declared.beat.ABeat.{ABeat}
 use Rattle.tl_edge.specs.declared.beat.DBeat.{DBeat}
@@ -7,12 +7,14 @@ use Rattle.tl_edge.specs.declared.plan.PlanPort.{PlanPort}
 use Rattle.tl_edge.specs.declared.plan.Plan.{Plan}
 use Rattle.tl_edge.specs.Plans.{edge_at}
 use Rattle.tl_edge.specs.Wires.{FitWires, a_fields, a_widths, d_fields, d_widths}
+use Rattle.flow_core.specs.Network.{network_at_start}
 use Rattle.flow_choice.specs.declared.offers.Offers.{Offers}
 use Rattle.net_cells.specs.declared.netlist.Netlist.{Netlist}
 use Rattle.net_cells.specs.Loops.{HasNoLoop, HasOneRun}
 use Rattle.net_cells.specs.Rules.{IsWellFormed}
-use Rattle.net_cells.specs.Values.{first_registers}
-use Rattle.net_ports.specs.Implementing.{input_values}
+use Rattle.net_cells.specs.Values.{AreValues, IsRunFrom, first_registers, next_registers}
+use Rattle.net_build.specs.Numbering.{Resets}
+use Rattle.net_ports.specs.Implementing.{AreOffered, Implements, input_values, outputs_by_cycle, outputs_of}
 use Rattle.net_ports.specs.Ports.{HasPorts}
 
 -- something is said of each port, and each beat that is offered fits the wires of the edge of its port
@@ -39,3 +41,16 @@ abbrev pub RunsLaw : Type 0
 RunsLaw =
     (plan : Plan) (netlist : Netlist) → IsWellFormed netlist → HasNoLoop netlist → HasPorts plan netlist
     → HasRuns plan netlist
+
+-- After a cycle in which net 0, the reset, is 1, whatever registers and inputs held, the netlist shows what the plan's
+-- network shows from its start on.
+abbrev pub StartsAgain : Plan → Netlist → Type 0
+StartsAgain plan netlist =
+    (given : List ℕ) (v : ℕ → ℕ) (cycles : List Offers) (values : List (ℕ → ℕ)) → AreValues netlist given v
+    → v 0 ≡ 1 → AreOffered plan (network_at_start plan) cycles
+    → IsRunFrom netlist (next_registers netlist v) (map input_values cycles) values
+    → map (outputs_of netlist) values ≡ outputs_by_cycle (network_at_start plan) cycles
+
+-- so does each netlist that is a plan's network and whose registers are all 0 after a reset
+abbrev pub ResetLaw : Type 0
+ResetLaw = (plan : Plan) (netlist : Netlist) → Resets netlist → Implements plan netlist → StartsAgain plan netlist

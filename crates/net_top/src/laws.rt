@@ -1,4 +1,4 @@
-ghost use Rattle.net_top.specs.Runs.{RunsLaw};
+ghost use Rattle.net_top.specs.Runs.{ResetLaw, RunsLaw};
 ghost use Rattle.net_top.specs.WholeLaw.{WholeLaw};
 
 use net_cells::runs_law;
@@ -21,3 +21,9 @@ pub fn port_runs_law()
 {
     runs_law();
 }
+
+/// A netlist that is the network of a plan, and whose registers are all 0 after a reset, is after each reset
+/// again what the network is from its start on.
+pub fn reset_law()
+    ensures { ResetLaw }
+{}

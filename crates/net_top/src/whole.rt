@@ -11,9 +11,9 @@ ghost use Rattle.net_ends.specs.Ends.{AreOfferEnds, sink_widths, source_widths};
 ghost use Rattle.net_leaves.specs.Buildable.{IsBuildable};
 ghost use Rattle.net_leaves.specs.OpenEdges.{AreOpenEdges, all_registers};
 ghost use Rattle.net_top.specs.Laying.{IsLaid};
-ghost use Rattle.net_top.specs.Runs.{HasRuns};
+ghost use Rattle.net_top.specs.Runs.{HasRuns, StartsAgain};
 
-use crate::laws::{port_runs_law, whole_law};
+use crate::laws::{port_runs_law, reset_law, whole_law};
 use crate::types::Laid;
 use dip_lists::Memory;
 use dip_sets::Name;
@@ -74,8 +74,10 @@ fn lay(alloc: Global, builder: &mut Builder, plan: &Plan, ports: &PortWires) -> 
     })
 }
 
-/// Builds the netlist of a plan, in registers and cells: its ports show in each cycle what the ports of the
-/// plan's network do.
+/// Builds the netlist of a plan, in registers and cells. In each run from the start, and after each cycle with
+/// `reset` 1, its outputs show in each cycle what the plan's network shows, as long as each cycle starts in a
+/// locally valid state and each offered beat is one that the edge of its port carries. Where such beats fit the
+/// wires of their ports, there is exactly one run. Its only error is that memory is short.
 pub fn build(alloc: Global, plan: &Plan) -> Result<Netlist, Memory>
     requires sound { IsSound plan.now }
     requires buildable { IsBuildable plan.now }
@@ -84,6 +86,7 @@ pub fn build(alloc: Global, plan: &Plan) -> Result<Netlist, Memory>
     ensures resets { IfOk result Resets }
     ensures implements { IfOk result (λ netlist. Implements plan.now netlist) }
     ensures runs { IfOk result (λ netlist. HasRuns plan.now netlist) }
+    ensures again { IfOk result (λ netlist. StartsAgain plan.now netlist) }
 {
     let mut builder = begin(alloc, plan)?;
     let ports = open_ports(alloc, &mut builder, plan)?;
@@ -102,6 +105,7 @@ pub fn build(alloc: Global, plan: &Plan) -> Result<Netlist, Memory>
     show_ports(alloc, &mut builder, plan, &shown)?;
     whole_law();
     port_runs_law();
+    reset_law();
     let netlist = builder.finish()?;
     Ok(netlist)
 }

@@ -60,3 +60,6 @@ returns-clause-implements c =
 
 pub returns-clause-runs : goal.returns-clause-runs
 returns-clause-runs c = c.port_runs_law.ensures c.args.plan.now c.in_ok-netlist.netlist c.in_ok-netlist.ensures.well_formed c.in_ok-netlist.ensures.no_loop (returns-clause-implements c).ports
+
+pub returns-clause-again : goal.returns-clause-again
+returns-clause-again c = c.reset_law.ensures c.args.plan.now c.in_ok-netlist.netlist c.in_ok-netlist.ensures.resets (returns-clause-implements c)
