@@ -74,10 +74,10 @@ fn lay(alloc: Global, builder: &mut Builder, plan: &Plan, ports: &PortWires) -> 
     })
 }
 
-/// Builds the netlist of a plan, in registers and cells. In each run from the start, and after each cycle with
-/// `reset` 1, its outputs show in each cycle what the plan's network shows, as long as each cycle starts in a
-/// locally valid state and each offered beat is one that the edge of its port carries. Where such beats fit the
-/// wires of their ports, there is exactly one run. Its only error is that memory is short.
+/// Builds the netlist of a plan, in registers and cells. In each run from the start, and after each cycle
+/// with `reset` 1, its outputs show in each cycle what the plan's network shows, as long as each cycle starts
+/// in a locally valid state and each offered beat is one that the edge of its port carries. Where such beats
+/// fit the wires of their ports, there is exactly one run. Its only error is that memory is short.
 pub fn build(alloc: Global, plan: &Plan) -> Result<Netlist, Memory>
     requires sound { IsSound plan.now }
     requires buildable { IsBuildable plan.now }
