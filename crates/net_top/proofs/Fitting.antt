@@ -108,9 +108,11 @@ all_fit plan offers h =
     let one = flat_map (source_inputs plan) plan.sources in
     let two = flat_map (sink_inputs plan) plan.sinks in
     let xs = source_values offers.enter offers.take_d in
-    let ys = sink_values offers.take_a offers.reply in
-    (pow_pos 1, subst (λ ws. FitWires (xs ++ ys) ws) (sym (map-append (λ (port : Port). port.width) one two))
-    (fit_both xs (widths_of_ports one) ys (widths_of_ports two) (sources_fit plan plan.sources offers.enter offers.take_d h.enter_long h.take_d_long h.enters) (sinks_fit plan plan.sinks offers.reply offers.take_a h.reply_long h.take_a_long h.replies)))
+    let ys = sink_values offers.take_a offers.reply in (
+      pow_pos 1,
+      subst (λ ws. FitWires (xs ++ ys) ws) (sym (map-append (λ (port : Port). port.width) one two))
+          (fit_both xs (widths_of_ports one) ys (widths_of_ports two) (sources_fit plan plan.sources offers.enter offers.take_d h.enter_long h.take_d_long h.enters) (sinks_fit plan plan.sinks offers.reply offers.take_a h.reply_long h.take_a_long h.replies)),
+    )
 
 are_inputs : (plan : Plan) (netlist : Netlist) (offers : Offers) → HasPorts plan netlist → FitPortWires plan offers → AreInputs netlist (input_values offers)
 are_inputs plan netlist offers ports h =

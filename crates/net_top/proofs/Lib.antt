@@ -4,3 +4,4 @@ pub mod Networks
 pub mod Composed
 pub mod Fitting
 pub mod Again
+pub mod Legal

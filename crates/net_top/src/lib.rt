@@ -6,6 +6,6 @@ mod laws;
 mod types;
 mod whole;
 
-pub use laws::{port_runs_law, reset_law, whole_law};
+pub use laws::{legal_beats_law, port_runs_law, reset_law, whole_law};
 pub use types::Laid;
 pub use whole::build;
