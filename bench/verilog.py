@@ -70,6 +70,10 @@ def main():
         for name, ports, through in (("ports", 64, 1), ("edges", 4, 4)):
             took, size, line = run(folder, name, chain(ports, through, BUFFERS), runs)
             print(f"{ports:>3} ports, {through} through {BUFFERS} buffers: {took:6.2f} s, {size / 1e6:.1f} MB: {line}")
+        example = TOP / "examples/pipeline"
+        subprocess.run([TOP / "soc", "verilog", example.with_suffix(".toml"), Path(folder) / "pipeline.v"], stdout=subprocess.DEVNULL, check=True)
+        same = (Path(folder) / "pipeline.v").read_bytes() == example.with_suffix(".v").read_bytes()
+        print(f"examples/pipeline.v is what is saved: {same}")
         for beat in (4, 8):
             some = [counted(run(folder, "short", chain(1, 1, buffers, beat), 1)[2]) for buffers in (0, 1, 2)]
             for word in ("registers", "cells"):
