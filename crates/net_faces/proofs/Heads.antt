@@ -18,7 +18,6 @@ use Rattle.net_queue.specs.declared.types.EdgeWires.{EdgeWires}
 use Rattle.net_queue.specs.declared.types.Queue.{Queue}
 use Rattle.net_queue.specs.Leaves.{IsEdge}
 use Rattle.net_queue.specs.Rows.{row_widths}
-use Rattle.net_queue.proofs.Opening.{open_adds}
 use Rattle.net_parts.specs.Wired.{no_edge_wires, wires_of_edge}
 use Rattle.net_leaves.specs.OpenEdges.{AreOpenEdges}
 use Rattle.net_leaves.proofs.Later.{edge_kept}

@@ -25,14 +25,12 @@ use Rattle.net_build.specs.Built.{Built, IsBit, IsWire, inputs}
 use Rattle.net_build.specs.Columns.{no_wire}
 use Rattle.net_build.specs.Registers.{AreWires}
 use Rattle.net_build.specs.Values.{Later}
-use Rattle.net_build.proofs.OpenedLists.{widths_later}
-use Rattle.net_build.proofs.Steps.{bit_later}
 use Rattle.net_ports.specs.Names.{AreNamed}
 use Rattle.net_ports.specs.Ports.{bundle_at, request_row, response_row}
 use Rattle.net_ports.specs.Rows.{AddsInputs, AreInputWires, AreRead, FitPorts, values_from, widths_of_ports}
 use Rattle.net_ports.proofs.RowSteps.{adds_both_inputs, adds_no_inputs, none_read, read_later, values_append}
 use Rattle.net_parts.specs.declared.types.EndWires.{EndWires}
-use Rattle.net_parts.specs.Wired.{no_end, wires_of_port}
+use Rattle.net_parts.specs.Wired.{no_end}
 use Rattle.net_ends.specs.Ends.{AreOfferEnds, IsEnd}
 use Rattle.net_ends.proofs.Later.{offers_later}
 use Rattle.net_faces.specs.PortRows.{sink_row, source_row}

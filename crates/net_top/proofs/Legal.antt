@@ -1,18 +1,15 @@
 -- Beats of legal messages are carried.
-use Rattle.std.proofs.Common.{◌≡◌, ℕ, ◌*◌, ◌%◌, ◌^◌, ◌<◌, ◌≤◌, ◌&&◌, ◌==◌, Bool, true, List, length, sym, ap, ◌∙◌, subst, arith}
-use Rattle.std.specs.Prelude.{All, IsTrue, nat_le, nat_lt, slice_index_or}
+use Rattle.std.proofs.Common.{◌≡◌, ℕ, ◌*◌, ◌%◌, ◌^◌, ◌<◌, ◌≤◌, ◌&&◌, ◌==◌, true, sym, ◌∙◌, subst, arith}
+use Rattle.std.specs.Prelude.{IsTrue, nat_le, nat_lt, slice_index_or}
 use Rattle.std.proofs.lemmas.Bool.Decides.{nat_tests}
 use Rattle.tl_edge.specs.declared.beat.ABeat.{ABeat}
 use Rattle.tl_edge.specs.declared.beat.DBeat.{DBeat}
-use Rattle.tl_edge.specs.declared.message.Request.{Request}
-use Rattle.tl_edge.specs.declared.message.Response.{Response}
 use Rattle.tl_edge.specs.declared.plan.PlanEdge.{PlanEdge}
 use Rattle.tl_edge.specs.BeatLaws.{HeadsLaw, IsBeatBack, IsBeatOf}
 use Rattle.tl_edge.specs.Beats.{beats_of_request, beats_of_response}
-use Rattle.tl_edge.specs.Legal.{IsLegalOn, LegalLaw}
-use Rattle.tl_edge.specs.Messages.{IsWholeResponse, bytes_of}
+use Rattle.tl_edge.specs.Legal.{LegalLaw}
+use Rattle.tl_edge.specs.Messages.{bytes_of}
 use Rattle.tl_edge.specs.Plans.{bus_width}
-use Rattle.tl_edge.specs.SoundPlans.{IsSoundEdge}
 use Rattle.tl_edge.specs.Wires.{FitsDown, FitsUp, WiresLaw}
 use Rattle.flow_core.specs.Carried.{carries_a, carries_d}
 use Rattle.net_top.specs.LegalBeats.{LegalBeatsLaw}

@@ -1,4 +1,4 @@
--- A whole netlist as a builder holds it. Only what isn't public cites it.
+-- A whole netlist as a builder holds it. Only what isn't public beyond this repository's netlists cites it.
 use Rattle.std.specs.Prelude.{◌≡◌, ◌<◌, ℕ, [], ◌∷◌, ◌++◌, ◌+◌, codes, flat_map, length}
 use Rattle.tl_edge.specs.declared.plan.Plan.{Plan}
 use Rattle.net_build.specs.Built.{Built, inputs, undriven}
