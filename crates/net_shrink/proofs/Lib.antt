@@ -1,0 +1,7 @@
+pub mod WrittenOut
+pub mod Entries
+pub mod Acting
+pub mod Whole
+pub mod Followed
+pub mod Replaced
+pub mod Asked

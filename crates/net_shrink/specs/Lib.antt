@@ -1,0 +1,2 @@
+pub mod Shrinkers
+pub mod Between
