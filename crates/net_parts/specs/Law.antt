@@ -1,4 +1,5 @@
--- Wires that are joined as a plan says show its network. Only what isn't public cites it.
+-- Wires that are joined as a plan says show its network, as long as its states are locally valid and ports offer what
+-- their edges carry. Only what isn't public beyond this repository's netlists cites it.
 use Rattle.std.specs.Prelude.{ℕ, List, ◌∷◌}
 use Rattle.tl_edge.specs.declared.plan.Plan.{Plan}
 use Rattle.tl_edge.specs.SoundPlans.{IsSound}

@@ -1,4 +1,5 @@
--- How the wires of a netlist stand to a state of the network. Only what isn't public cites it.
+-- How the wires of a netlist stand to a state of the network. Only what isn't public beyond this
+-- repository's netlists cites it.
 use Rattle.std.specs.Prelude.{◌≡◌, ℕ, ◌<◌, ◌==◌, false, Bool, List, [], ◌∷◌, length, map, get_or, Option, None}
 use Rattle.std.specs.Option.{option_map}
 use Rattle.tl_edge.specs.declared.beat.ABeat.{ABeat}
