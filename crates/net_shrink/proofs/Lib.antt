@@ -5,3 +5,5 @@ pub mod Whole
 pub mod Followed
 pub mod Replaced
 pub mod Asked
+pub mod Standing
+pub mod Planned

@@ -1,18 +1,22 @@
 -- The shrinker as the network states it.
-use Rattle.std.specs.Prelude.{◌≡◌, ℕ, ◌≤◌, Bool, true, false, List, [], ◌∷◌, Option, Some, None, slice_get, slice_index_or}
+use Rattle.std.specs.Prelude.{◌≡◌, ℕ, ◌≤◌, Bool, true, false, List, [], ◌∷◌, map, Option, Some, None, slice_get, slice_index_or}
+use Rattle.std.specs.Option.{option_map_or, unwrap_or}
 use Rattle.tl_params.specs.declared.ops.Ack.TheVariants as answer
 use Rattle.tl_params.specs.declared.ops.Op.TheVariants.{PutFull}
+use Rattle.tl_params.specs.Arguments.{shrink_argument}
 use Rattle.tl_edge.specs.declared.beat.ABeat.{ABeat}
 use Rattle.tl_edge.specs.declared.beat.DBeat.{DBeat}
+use Rattle.tl_edge.specs.declared.plan.Leaf.{Leaf}
 use Rattle.tl_edge.specs.declared.plan.Plan.{Plan}
+use Rattle.tl_edge.specs.Plans.{bus_width, edge_at}
 use Rattle.flow_core.specs.Acts.{with_a_id}
-use Rattle.flow_core.specs.Leaves.{LeafState}
+use Rattle.flow_core.specs.Leaves.{LeafState, first_edge}
 use Rattle.flow_core.specs.Leaves.LeafState.{ShrinkerState}
 use Rattle.flow_core.specs.Network.{network_at_start}
 use Rattle.flow_core.specs.Shrinking.{Asking, Slots}
 use Rattle.flow_core.specs.Turns.{leaf_state, next_id}
 use Rattle.net_queue.specs.Adapters.{adapter}
-use Rattle.net_queue.specs.Leaves.{DoneFitsAt, LeafDone, LeafView}
+use Rattle.net_queue.specs.Leaves.{DoneFitsAt, LeafDone, LeafView, ins_at}
 use Rattle.net_queue.specs.Machines.{Machine}
 use Rattle.net_buffer.specs.Buffers.{acts, edges_show}
 
@@ -23,6 +27,15 @@ shrinking idle = adapter idle next_id
 -- the leaf of a plan, from the state in which the network has it at the start
 abbrev pub shrinker_machine : Plan → ℕ → Machine LeafState LeafView LeafDone
 shrinker_machine plan leaf = shrinking (leaf_state (network_at_start plan) leaf)
+
+-- how many new ids it has
+abbrev pub new_id_count : Plan → ℕ → ℕ
+new_id_count plan leaf =
+    option_map_or (λ (at : Leaf). unwrap_or (shrink_argument at.args) 0) (slice_get plan.leaves leaf) 0
+
+-- the bytes of the bus of its in edge
+abbrev pub shrinker_bus : Plan → ℕ → ℕ
+shrinker_bus plan leaf = bus_width (first_edge (map (edge_at plan) (ins_at plan leaf)))
 
 -- what holds of a shrinker in a locally valid state, as far as its wires rest on it: what it puts fits the wires of its
 -- edges, the id of a response isn't free, and no message has more than 256 bytes
