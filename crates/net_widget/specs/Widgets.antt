@@ -87,7 +87,7 @@ pub record MakesBoth (above below : PlanEdge) (widths : Widths) (widget : Widget
   pub after : (widget_machine above below).after (WidthState widths widget) (edges_show (Some x) true (Some y) true)
       ≡ WidthState widths second.next
 
--- so it is in each locally valid state
+-- so it is wherever the heads and what is kept let both channels turn
 abbrev pub BothLaw : Type 0
 BothLaw =
     (above below : PlanEdge) (widths : Widths) (widget : Widget) (x : ABeat) (y : DBeat) (down : Act ABeat Widget)

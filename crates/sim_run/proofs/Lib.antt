@@ -4,3 +4,4 @@ pub mod Running
 pub mod Offered
 pub mod Told
 pub mod Cycled
+pub mod Texts

@@ -5,3 +5,4 @@ pub mod Standing
 pub mod Following
 pub mod Buffering
 pub mod Cycles
+pub mod Texts
