@@ -1,9 +1,8 @@
 -- A crossbar of the network is its machine.
-use Rattle.std.proofs.Common.{◌≡◌, ◌<◌, ◌≤◌, ℕ, zero, suc, ◌+◌, Bool, true, List, [], ◌∷◌, ◌++◌, length, map, get_or, Option, Some, None, refl, sym, ap, ◌∙◌, subst, arith, inl, inr, slice_get}
+use Rattle.std.proofs.Common.{◌≡◌, ℕ, zero, suc, ◌+◌, Bool, true, List, [], ◌∷◌, ◌++◌, length, map, get_or, Option, Some, None, refl, sym, ap, ◌∙◌, subst, arith, slice_get}
 use Rattle.std.specs.Prelude.{flat_map}
 use Rattle.std.specs.List.{range_with_len}
 use Rattle.std.specs.Option.{option_map, option_map_or, option_to_list}
-use Rattle.std.proofs.lemmas.Bool.{cases_eq}
 use Rattle.std.proofs.lemmas.List.{length-map}
 use Rattle.tl_edge.specs.declared.beat.ABeat.{ABeat}
 use Rattle.tl_edge.specs.declared.beat.DBeat.{DBeat}
@@ -22,7 +21,7 @@ use Rattle.flow_core.specs.Turns.{leaf_state}
 use Rattle.flow_choice.specs.Choosing.{leaf_moves, state_after_moves}
 use Rattle.flow_choice.proofs.Jobs.{seen}
 use Rattle.flow_choice.proofs.Listing.{Each, IsSome, each-append, each_first, each_flat, each_map}
-use Rattle.flow_choice.proofs.Ordering.{AllApart, ApartFrom}
+use Rattle.flow_choice.proofs.Ordering.{AllApart}
 use Rattle.net_queue.specs.Adapters.{act_by, state_by}
 use Rattle.net_queue.specs.Leaves.{LeafDone, LeafView, ins_at, outs_at}
 use Rattle.net_xbar.specs.Crossings.{act_down, act_up, after_down, after_up, crossing, each_number, is_taken, put_of, state_through}
@@ -46,28 +45,6 @@ by_place_from f g (x ∷ xs) low h =
 
 by_place : {A B : Type 0} (f : A → B) (g : ℕ → B) (xs : List A) (n : ℕ) → n ≡ length xs → ((k : ℕ) (x : A) → slice_get xs k ≡ Some x → f x ≡ g k) → map f xs ≡ map g (range_with_len 0 n)
 by_place f g xs n e h = by_place_from f g xs 0 (λ k x q. let z : k ≡ 0 + k = omega arith in h k x q ∙ ap g z) ∙ ap (λ n. map g (range_with_len 0 n)) (sym e)
-
--- ---- parts of a list of moves that are apart
-
-module _ (s : State) where
-  from_left : (m : Move) (ms ns : List Move) → ApartFrom s m (ms ++ ns) → ApartFrom s m ms
-  from_left m [] ns a = tt
-  from_left m (n ∷ ms) ns a = (a.0, from_left m ms ns a.1)
-
-  pub apart_left : (ms ns : List Move) → AllApart s (ms ++ ns) → AllApart s ms
-  apart_left [] ns a = tt
-  apart_left (m ∷ ms) ns a = (a.0, from_left m ms ns a.1, apart_left ms ns a.2)
-
-  pub apart_right : (ms ns : List Move) → AllApart s (ms ++ ns) → AllApart s ns
-  apart_right [] ns a = a
-  apart_right (m ∷ ms) ns a = apart_right ms ns a.2
-
-  pub apart_each : (f : ℕ → List Move) (k low count : ℕ) → low ≤ k → k < low + count → AllApart s (flat_map f (range_with_len low count)) → AllApart s (f k)
-  apart_each f k low zero b c a = absurd (omega (arith, b, c))
-  apart_each f k low (suc count) b c a = elim (cases_eq low k) [
-    | inl q ↦ subst (λ n. AllApart s (f n)) q (apart_left (f low) (flat_map f (range_with_len (low + 1) count)) a)
-    | inr d ↦ apart_each f k (low + 1) count (omega (arith, b, d)) (omega (arith, c)) (apart_right (f low) (flat_map f (range_with_len (low + 1) count)) a)
-  ]
 
 module _ (s : State) (l : ℕ) (bar : Crossbar) (tag : Tag) (gates : Gates) (leaf : Leaf) (b : BarAt s l bar tag gates leaf) (edges : HasEdges s leaf) where
   abbrev its : LeafState

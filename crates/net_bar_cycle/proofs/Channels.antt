@@ -1,8 +1,8 @@
 -- What the chosen moves of a crossbar of the network are on each channel, and what they put and take at its edges.
-use Rattle.std.proofs.Common.{◌≡◌, ◌<◌, ℕ, zero, suc, false, ◌||◌, List, [], ◌∷◌, ◌++◌, length, map, get_or, Option, Some, None, cond, refl, sym, ap, ◌∙◌, slice_get}
+use Rattle.std.proofs.Common.{◌≡◌, ◌<◌, ℕ, zero, suc, false, List, [], ◌∷◌, ◌++◌, length, map, get_or, Option, Some, None, cond, refl, sym, ap, ◌∙◌, slice_get}
 use Rattle.std.specs.Prelude.{flat_map}
 use Rattle.std.specs.List.{range_with_len}
-use Rattle.std.specs.Option.{option_and_then, option_map, option_map_or, option_or}
+use Rattle.std.specs.Option.{option_and_then, option_map, option_map_or}
 use Rattle.std.proofs.lemmas.List.{length-map}
 use Rattle.std.proofs.lemmas.Option.{slice_get_within}
 use Rattle.tl_edge.specs.declared.beat.ABeat.{ABeat}
@@ -12,7 +12,6 @@ use Rattle.tl_edge.specs.declared.plan.Leaf.{Leaf}
 use Rattle.flow_core.specs.declared.locks.Gates.{Gates}
 use Rattle.flow_core.specs.declared.moves.Move.{Move}
 use Rattle.flow_core.specs.declared.moves.Move.TheVariants.{AbsorbA, AbsorbD, ForwardA, ForwardD}
-use Rattle.flow_core.specs.declared.queue.Flow.{Flow}
 use Rattle.flow_core.specs.Crossing.{Crossbar}
 use Rattle.flow_core.specs.Leaves.{down, up}
 use Rattle.flow_core.specs.Leaves.LeafState.{BufferState, XbarState}
@@ -31,7 +30,7 @@ use Rattle.net_xbar.specs.Crossings.{act_down, act_up, is_taken, put_of}
 use Rattle.net_cycle.specs.Flows.{flow_down, flow_up, first_put, any_take}
 use Rattle.net_cycle.specs.Parts.{plain}
 use Rattle.net_cycle.proofs.AtPorts.{and_true}
-use Rattle.net_cycle.proofs.Ends.{put_both, take_both, or_nothing, or_false}
+use Rattle.net_cycle.proofs.OwnMoves.{put_first, put_second, take_first, take_second}
 use Rattle.net_bar_cycle.proofs.Passing.{Way, way_flow, act_is, room_at}
 use Rattle.net_bar_cycle.proofs.Side.{Side, chosen, first, takes, puts}
 use Rattle.net_bar_cycle.proofs.Crossed.{BarAt, pass_down, pass_up, down_is, up_is, way_a, way_d, job_a, job_d, job_a_is, job_d_is, no_absorb_a, no_absorb_d}
@@ -56,30 +55,6 @@ sees s leaf = record {
   heads_d = map (λ edge. plain (head_in (queue s.d edge))) leaf.outs;
   room_a = map (λ edge. has_place (queue s.a edge)) leaf.outs;
 }
-
--- ---- moves that do nothing on a channel
-
-module _ {B : Type 0} (flow : Move → Flow (B × Tag)) (edge : ℕ) where
-  none_take : (ms : List Move) → Each (λ m. flow m ≡ still) ms → any_take edge (map flow ms) ≡ false
-  none_take [] a = refl
-  none_take (m ∷ ms) a = rw a.0 (none_take ms a.1)
-
-  none_put : (ms : List Move) → Each (λ m. flow m ≡ still) ms → first_put edge (map flow ms) ≡ None
-  none_put [] a = refl
-  none_put (m ∷ ms) a = rw a.0 (none_put ms a.1)
-
-  -- those beside them are all that counts
-  pub take_first : (ms ns : List Move) → Each (λ m. flow m ≡ still) ns → any_take edge (map flow (ms ++ ns)) ≡ any_take edge (map flow ms)
-  take_first ms ns a = take_both flow edge ms ns ∙ ap (λ b. any_take edge (map flow ms) || b) (none_take ns a) ∙ or_false (any_take edge (map flow ms))
-
-  pub take_second : (ms ns : List Move) → Each (λ m. flow m ≡ still) ms → any_take edge (map flow (ms ++ ns)) ≡ any_take edge (map flow ns)
-  take_second ms ns a = take_both flow edge ms ns ∙ ap (λ b. b || any_take edge (map flow ns)) (none_take ms a)
-
-  pub put_first : (ms ns : List Move) → Each (λ m. flow m ≡ still) ns → first_put edge (map flow (ms ++ ns)) ≡ first_put edge (map flow ms)
-  put_first ms ns a = put_both flow edge ms ns ∙ ap (option_or (first_put edge (map flow ms))) (none_put ns a) ∙ or_nothing (first_put edge (map flow ms))
-
-  pub put_second : (ms ns : List Move) → Each (λ m. flow m ≡ still) ms → first_put edge (map flow (ms ++ ns)) ≡ first_put edge (map flow ns)
-  put_second ms ns a = put_both flow edge ms ns ∙ ap (λ o. option_or o (first_put edge (map flow ns))) (none_put ms a)
 
 flat_same : (f g : ℕ → List Move) → ((n : ℕ) → f n ≡ g n) → (ns : List ℕ) → flat_map f ns ≡ flat_map g ns
 flat_same f g h [] = refl

@@ -4,4 +4,6 @@ pub mod Counting
 pub mod Ends
 pub mod AtPorts
 pub mod AtLeaves
-pub mod AtBuffer
+pub mod OwnMoves
+pub mod Channel
+pub mod AtAdapter

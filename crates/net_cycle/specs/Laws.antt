@@ -1,6 +1,7 @@
 -- A cycle of the network is a cycle of its parts: each queue moves on by what its two ends do, each leaf by itself.
-use Rattle.std.specs.Prelude.{ℕ, ◌≡◌}
-use Rattle.tl_params.specs.declared.ops.Template.TheVariants.{Buffer}
+use Rattle.std.specs.Prelude.{ℕ, ◌≡◌, false}
+use Rattle.tl_params.specs.declared.ops.Template.{Template}
+use Rattle.tl_params.specs.Operations.{is_nexus}
 use Rattle.tl_edge.specs.declared.plan.Plan.{Plan}
 use Rattle.tl_edge.specs.SoundPlans.{IsSound}
 use Rattle.flow_core.specs.Network.{State}
@@ -29,9 +30,10 @@ PartsLaw =
     (plan : Plan) (state : State) (offers : Offers) → IsSound plan → IsValid plan state
     → IsCycleOfParts plan state offers
 
--- a buffer of the network is its machine
-abbrev pub BufferAtLaw : Type 0
-BufferAtLaw =
-    (plan : Plan) (state : State) (leaf : ℕ) (idle : LeafState) (id : LeafState → ℕ) → IsSound plan
-    → IsValid plan state → IsOfTemplate plan leaf Buffer
+-- an adapter of the network, a leaf of any template but the crossbar, is its machine: that of the acts which its state
+-- makes, by an id that is the state's next one; whatever state the machine begins in
+abbrev pub AdapterAtLaw : Type 0
+AdapterAtLaw =
+    (plan : Plan) (state : State) (leaf : ℕ) (template : Template) (idle : LeafState) (id : LeafState → ℕ)
+    → IsSound plan → IsValid plan state → IsOfTemplate plan leaf template → is_nexus template ≡ false
     → id (leaf_state state leaf) ≡ next_id (leaf_state state leaf) → IsMachineAt state leaf (adapter idle id)

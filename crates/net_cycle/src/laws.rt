@@ -1,4 +1,4 @@
-ghost use Rattle.net_cycle.specs.Laws.{BufferAtLaw, PartsLaw};
+ghost use Rattle.net_cycle.specs.Laws.{AdapterAtLaw, PartsLaw};
 
 /// In every locally valid state of a sound plan, whatever the ports offer, the chosen moves of a cycle leave
 /// each queue as if they were made at once: its head is taken where one end takes it, and what the other end
@@ -7,8 +7,8 @@ pub fn parts_law()
     ensures { PartsLaw }
 {}
 
-/// What a buffer of the network does in a cycle, and its state afterwards, is what the machine says that its
-/// wires are.
-pub fn buffer_at_law()
-    ensures { BufferAtLaw }
+/// What an adapter of the network (a buffer, width adapter, fragmenter or shrinker) does in a cycle, and its
+/// state afterwards, is what the machine says that its wires are.
+pub fn adapter_at_law()
+    ensures { AdapterAtLaw }
 {}

@@ -3,4 +3,4 @@
 
 mod laws;
 
-pub use laws::{buffer_at_law, parts_law};
+pub use laws::{adapter_at_law, parts_law};

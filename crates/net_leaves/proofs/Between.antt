@@ -15,9 +15,10 @@ use Rattle.net_build.specs.Built.{Built}
 use Rattle.net_build.specs.Values.{Later}
 use Rattle.net_queue.specs.declared.types.EdgeWires.{EdgeWires}
 use Rattle.net_queue.specs.declared.types.LeafWires.{LeafWires}
-use Rattle.net_queue.specs.Leaves.{AreEdges, AreWiresOf, DoneFitsAt, IsEdge, IsLeaf, ins_at, outs_at}
+use Rattle.net_queue.specs.Leaves.{AreEdges, AreWiresOf, IsEdge, IsLeaf, ins_at, outs_at}
 use Rattle.net_parts.specs.Wired.{no_leaf_wires, wires_of_edge, wires_of_edges, wires_of_leaf}
-use Rattle.net_leaves.specs.LeafWiring.{AreLeavesInWires, IsLeafInWires, machine_at}
+use Rattle.net_leaves.specs.LeafWiring.{AreLeavesInWires, IsLeafInWires}
+use Rattle.net_kinds.specs.Kinds.{fits_at, machine_at}
 use Rattle.net_leaves.specs.OpenEdges.{AreOpenEdges}
 use Rattle.net_leaves.proofs.Later.{leaf_later}
 
@@ -63,12 +64,12 @@ between b plan edges ns row wires h e within w =
 
 -- what is said between the queues of a leaf's edges, taken one by one
 pub leaf_made : (b : Built) (plan : Plan) (edges : List EdgeWires) (k : ℕ) (ins outs : List EdgeWires) (wires : LeafWires) → ins ≡ wires_of_edges edges (ins_at plan k) → outs ≡ wires_of_edges edges (outs_at plan k)
-    → AreWiresOf b ins outs wires → IsLeaf b ins outs wires (machine_at k) (DoneFitsAt plan k (machine_at k)) → IsLeafInWires b plan edges k wires
+    → AreWiresOf b ins outs wires → IsLeaf b ins outs wires (machine_at plan k) (fits_at plan k) → IsLeafInWires b plan edges k wires
 leaf_made b plan edges k ins outs wires e f s m = record {
   shaped = subst (λ (xs : List EdgeWires). AreWiresOf b xs (wires_of_edges edges (outs_at plan k)) wires) e (subst (λ (ys : List EdgeWires). AreWiresOf b ins ys wires) f s);
   machine =
-      subst (λ (xs : List EdgeWires). IsLeaf b xs (wires_of_edges edges (outs_at plan k)) wires (machine_at k) (DoneFitsAt plan k (machine_at k))) e
-      (subst (λ (ys : List EdgeWires). IsLeaf b ins ys wires (machine_at k) (DoneFitsAt plan k (machine_at k))) f m);
+      subst (λ (xs : List EdgeWires). IsLeaf b xs (wires_of_edges edges (outs_at plan k)) wires (machine_at plan k) (fits_at plan k)) e
+      (subst (λ (ys : List EdgeWires). IsLeaf b ins ys wires (machine_at plan k) (fits_at plan k)) f m);
 }
 
 -- ---- leaves, built one after another

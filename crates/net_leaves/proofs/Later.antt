@@ -15,13 +15,14 @@ use Rattle.net_queue.specs.declared.types.EdgeWires.{EdgeWires}
 use Rattle.net_queue.specs.declared.types.LeafWires.{LeafWires}
 use Rattle.net_queue.specs.declared.types.Put.{Put}
 use Rattle.net_queue.specs.declared.types.Queue.{Queue}
-use Rattle.net_queue.specs.Leaves.{AreWiresOf, DoneFitsAt, IsEdge, IsPutInto, done_at, done_fields, ins_at, outs_at, view_at, view_fields}
+use Rattle.net_queue.specs.Leaves.{AreWiresOf, IsEdge, IsPutInto, done_at, done_fields, ins_at, outs_at, view_at, view_fields}
 use Rattle.net_queue.specs.Queues.{IsOpen, queue_registers}
 use Rattle.net_queue.proofs.Alike.{alike_later}
 use Rattle.net_queue.proofs.Relations.{machine_later}
 use Rattle.net_buffer.proofs.Edges.{long_of}
 use Rattle.net_parts.specs.Wired.{wires_of_edge, wires_of_edges, wires_of_leaf}
-use Rattle.net_leaves.specs.LeafWiring.{AreLeavesInWires, IsLeafInWires, machine_at}
+use Rattle.net_leaves.specs.LeafWiring.{AreLeavesInWires, IsLeafInWires}
+use Rattle.net_kinds.specs.Kinds.{fits_at, machine_at}
 use Rattle.net_leaves.specs.OpenEdges.{AreOpenEdges}
 
 -- ---- open queues
@@ -103,7 +104,7 @@ leaf_later old new plan edges leaf wires g h =
     let outs : List EdgeWires = wires_of_edges edges (outs_at plan leaf) in
     record {
       shaped = shape_later old new ins outs wires g h.shaped;
-      machine = machine_later (machine_at leaf) (DoneFitsAt plan leaf (machine_at leaf)) view_fields done_fields (view_at ins outs) (done_at wires) old new g h.machine;
+      machine = machine_later (machine_at plan leaf) (fits_at plan leaf) view_fields done_fields (view_at ins outs) (done_at wires) old new g h.machine;
     }
 
 pub leaves_later : (old new : Built) (plan : Plan) (edges : List EdgeWires) (count : ℕ) (leaves : List LeafWires) → Later old new → AreLeavesInWires old plan edges count leaves → AreLeavesInWires new plan edges count leaves

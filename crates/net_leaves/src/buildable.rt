@@ -7,5 +7,8 @@ use tl_params::Template;
 pub fn is_buildable(template: Template) -> bool
     ensures { result ≡ spec.is_buildable template }
 {
-    matches!(template, Template::Buffer)
+    matches!(
+        template,
+        Template::Buffer | Template::Shrinker | Template::Xbar
+    )
 }

@@ -1,6 +1,6 @@
-ghost use Rattle.net_leaves.specs.Buildable.{BuffersLaw};
+ghost use Rattle.net_leaves.specs.Buildable.{HardwareLaw};
 
-/// Every plan of buffers alone can be built.
-pub fn buffers_law()
-    ensures { BuffersLaw }
+/// Every plan without width adapters and fragmenters can be built.
+pub fn hardware_law()
+    ensures { HardwareLaw }
 {}

@@ -4,21 +4,23 @@ ghost use Rattle.net_build.specs.Values.{Adds};
 ghost use Rattle.net_queue.specs.Leaves.{
   AreEdges,
   AreWiresOf,
-  DoneFitsAt,
   IsLeaf,
   IsOfTemplate,
   ins_at,
   outs_at,
 };
 ghost use Rattle.net_parts.specs.Wired.{wires_of_edges};
+ghost use Rattle.net_kinds.specs.Kinds.{fits_at, machine_at};
 ghost use Rattle.net_leaves.specs.Buildable.{IsBuildable, is_buildable};
-ghost use Rattle.net_leaves.specs.LeafWiring.{AreLeavesInWires, IsLeafInWires, machine_at};
+ghost use Rattle.net_leaves.specs.LeafWiring.{AreLeavesInWires, IsLeafInWires};
 ghost use Rattle.net_leaves.specs.OpenEdges.{AreOpenEdges};
 
 use dip_lists::{Duplicate, Items, Memory};
 use net_buffer::build_buffer;
 use net_build::Builder;
+use net_crossbar::build_xbar;
 use net_queue::{EdgeWires, LeafWires};
+use net_shrink::build_shrink;
 use std::alloc::Global;
 use tl_edge::Plan;
 use tl_params::Template;
@@ -54,12 +56,13 @@ fn build_template(
     ensures adds { IfOk result (λ _. Adds builder.old builder.new) }
     ensures wires { IfOk result (λ w. AreWiresOf builder.new ins.now outs.now w) }
     ensures leaf { IfOk result
-        (λ w. IsLeaf builder.new ins.now outs.now w (machine_at leaf)
-        (DoneFitsAt plan.now leaf (machine_at leaf))) }
+        (λ w. IsLeaf builder.new ins.now outs.now w (machine_at plan.now leaf) (fits_at plan.now leaf)) }
 {
     match template {
         Template::Buffer => build_buffer(alloc, builder, plan, leaf, ins, outs),
-        Template::Width | Template::Fragmenter | Template::Shrinker | Template::Xbar => {
+        Template::Shrinker => build_shrink(alloc, builder, plan, leaf, ins, outs),
+        Template::Xbar => build_xbar(alloc, builder, plan, leaf, ins, outs),
+        Template::Width | Template::Fragmenter => {
             unreachable!();
         }
     }

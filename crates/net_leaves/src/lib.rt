@@ -8,5 +8,5 @@ mod leaves;
 
 pub use buildable::is_buildable;
 pub use edges::open_edges;
-pub use laws::buffers_law;
+pub use laws::hardware_law;
 pub use leaves::build_leaves;

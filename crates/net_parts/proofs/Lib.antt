@@ -1,3 +1,4 @@
 pub mod Shown
 pub mod LeafMoves
+pub mod Weaker
 pub mod Standing

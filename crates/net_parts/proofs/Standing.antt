@@ -1,8 +1,7 @@
 -- How wires that are joined as a plan says stand to its network, cycle by cycle.
-use Rattle.std.proofs.Common.{◌≡◌, ℕ, zero, suc, ◌<◌, ◌&&◌, Bool, true, false, cond, List, [], ◌∷◌, length, map, get_or, replicate, Option, Some, None, is_some, refl, sym, ap, ◌∙◌, subst, arith, slice_get, ◌⊎◌, inl, inr}
-use Rattle.std.specs.Prelude.{IsTrue, ◌==◌}
+use Rattle.std.proofs.Common.{◌≡◌, ℕ, zero, suc, ◌<◌, ◌&&◌, Bool, true, false, cond, List, [], ◌∷◌, length, map, get_or, replicate, Option, Some, None, is_some, refl, sym, ap, ◌∙◌, subst, arith, slice_get}
+use Rattle.std.specs.Prelude.{◌==◌}
 use Rattle.std.specs.Option.{option_map, option_map_or}
-use Rattle.std.proofs.lemmas.Bool.{cases_lt}
 use Rattle.std.proofs.lemmas.List.{get_or-map, length-map}
 use Rattle.std.proofs.lemmas.Option.{same_Some, slice_get_within, get_or_from_slice_get, slice_get-get_or}
 use Rattle.tl_edge.specs.declared.beat.ABeat.{ABeat}
@@ -34,22 +33,20 @@ use Rattle.net_build.specs.Built.{Built}
 use Rattle.net_build.specs.Columns.{no_wire}
 use Rattle.net_build.specs.Values.{AtStart, Solves, Ticks, high}
 use Rattle.net_queue.specs.declared.types.EdgeWires.{EdgeWires}
-use Rattle.net_queue.specs.declared.types.LeafWires.{LeafWires}
 use Rattle.net_queue.specs.declared.types.Put.{Put}
 use Rattle.net_queue.specs.declared.types.Queue.{Queue}
-use Rattle.net_queue.specs.Leaves.{Done, DoneFits, DoneFitsAt, LeafDone, LeafView, View, done_at, done_fields, ins_at, outs_at, put_told, view_at, view_fields}
+use Rattle.net_queue.specs.Leaves.{Done, DoneFits, LeafDone, LeafView, View, done_at, done_fields, ins_at, outs_at, put_told, view_at, view_fields}
 use Rattle.net_queue.specs.Machines.{Machine, Reached}
 use Rattle.net_queue.specs.Machines.Reached.{begins, goes}
-use Rattle.net_queue.specs.Queues.{Holds, MayMove, Moved, Shown, moved_at, moved_on, shown_at, shown_of}
+use Rattle.net_queue.specs.Queues.{Holds, MayMove, Moved, moved_at, moved_on, shown_at, shown_of}
 use Rattle.net_ports.specs.Implementing.{AreOffered, AreOffersAt}
 use Rattle.net_cycle.specs.Ends.{let_back, let_in}
 use Rattle.net_cycle.specs.Flows.{any_take, first_put, flow_down, flow_up, moved_here}
 use Rattle.net_cycle.specs.Laws.{IsCycleOfParts, PartsLaw}
 use Rattle.net_cycle.specs.Parts.{IsMachineAt, done_by, plain, seen_by}
-use Rattle.net_parts.specs.declared.types.EndWires.{EndWires}
-use Rattle.net_parts.specs.Wired.{IsClosedEdge, IsPortEnd, IsWired, Wiring, giver_end, no_put, taker_end, wires_of_edge, wires_of_edges, wires_of_leaf, wires_of_port}
-use Rattle.net_parts.specs.Stands.{AreCycles, AreMachines, IsCalm, Offer, ShowAll, ShowEach, down_fields, up_fields}
-use Rattle.net_parts.specs.Law.{WiredLaw}
+use Rattle.net_parts.specs.Wired.{IsClosedEdge, IsPortEnd, IsWired, Occurs, Wiring, giver_end, no_put, taker_end, wires_of_edge, wires_of_edges, wires_of_leaf, wires_of_port}
+use Rattle.net_parts.specs.Stands.{AreCycles, AreMachines, Offer, ShowAll, ShowEach, down_fields, up_fields}
+use Rattle.net_parts.specs.Law.{PutsFitLaw, WiredLaw}
 use Rattle.net_parts.proofs.Shown.{gate_put, gated, head_shown, mapped, maps_once, maps_twice, may_mapped, moved_mapped, plain_fields, room_shown, same_moved, some_at, valid_shown}
 use Rattle.net_parts.proofs.LeafMoves.{fits_down, fits_up}
 
@@ -116,6 +113,45 @@ put_fits {B} f (n ∷ ns) put widths h zero beat e = at (put n) refl e
     at (Some x) p q = subst (λ (y : B). FitWires (f y) (widths n)) (same_Some x.0 beat q) (h n x p)
 put_fits f (n ∷ ns) put widths h (suc k) beat e = put_fits f ns put widths h k beat e
 
+-- ---- what leaves put fits
+
+module _ (plan : Plan) (s : State) (valid : IsValid plan s) where
+  its_plan : s.plan ≡ plan
+  its_plan = valid.shape.plan
+
+  done_as : (leaf : ℕ) → done_by s leaf ≡ done_of plan s leaf
+  done_as leaf = ap (λ (p : Plan). done_of p s leaf) its_plan
+
+  down_fits : (leaf edge : ℕ) (x : ABeat × Tag) → first_put edge (map (flow_down s) (leaf_moves s leaf)) ≡ Some x → FitWires (a_fields x.0) (a_widths (edge_at plan edge).bundle)
+  down_fits leaf edge x e = subst (λ (p : Plan). FitWires (a_fields x.0) (a_widths (edge_at p edge).bundle)) its_plan (fits_down s leaf edge x valid.puts e)
+
+  up_fits : (leaf edge : ℕ) (x : DBeat × Tag) → first_put edge (map (flow_up s) (leaf_moves s leaf)) ≡ Some x → FitWires (d_fields x.0) (d_widths (edge_at plan edge).bundle)
+  up_fits leaf edge x e = subst (λ (p : Plan). FitWires (d_fields x.0) (d_widths (edge_at p edge).bundle)) its_plan (fits_up s leaf edge x valid.puts e)
+
+  wide_edge : (ns : List ℕ) (k : ℕ) → k < length ns → get_or (map (edge_at plan) ns) k no_edge ≡ edge_at plan (get_or ns k 0)
+  wide_edge ns k l = get_or-map (edge_at plan) ns k 0 no_edge l
+
+  within_put : {B : Type 0} (ns : List ℕ) (put : ℕ → Option B) (k : ℕ) (beat : B) → get_or (map put ns) k None ≡ Some beat → k < length ns
+  within_put [] put k beat e = absurd (let x : None ≡ Some beat = e in cc)
+  within_put (n ∷ ns) put zero beat e = omega arith
+  within_put (n ∷ ns) put (suc k) beat e = let l = within_put ns put k beat e in omega (arith, l)
+
+  fit_done : (leaf : ℕ) → DoneFits (map (edge_at plan) (ins_at plan leaf)) (map (edge_at plan) (outs_at plan leaf)) (done_of plan s leaf)
+  fit_done leaf = record {
+    requests = λ k beat e.
+        let l = within_put (outs_at plan leaf) (λ edge. plain (first_put edge (map (flow_down s) (leaf_moves s leaf)))) k beat e in
+        subst (λ (p : PlanEdge). FitWires (a_fields beat) (a_widths p.bundle)) (sym (wide_edge (outs_at plan leaf) k l))
+        (put_fits a_fields (outs_at plan leaf) (λ edge. first_put edge (map (flow_down s) (leaf_moves s leaf))) (λ edge. a_widths (edge_at plan edge).bundle) (down_fits leaf) k beat e);
+    responses = λ k beat e.
+        let l = within_put (ins_at plan leaf) (λ edge. plain (first_put edge (map (flow_up s) (leaf_moves s leaf)))) k beat e in
+        subst (λ (p : PlanEdge). FitWires (d_fields beat) (d_widths p.bundle)) (sym (wide_edge (ins_at plan leaf) k l))
+        (put_fits d_fields (ins_at plan leaf) (λ edge. first_put edge (map (flow_up s) (leaf_moves s leaf))) (λ edge. d_widths (edge_at plan edge).bundle) (up_fits leaf) k beat e);
+  }
+
+pub puts_fit_of : PutsFitLaw
+puts_fit_of plan s leaf machine valid at =
+    subst (λ (d : LeafDone). DoneFits (map (edge_at plan) (ins_at plan leaf)) (map (edge_at plan) (outs_at plan leaf)) d) (sym (done_as plan s valid leaf) ∙ at.does) (fit_done plan s valid leaf)
+
 -- ---- one cycle
 
 -- each part has reached the network's state
@@ -123,7 +159,7 @@ pub record Stand (b : Built) (plan : Plan) (m : ℕ → Machine LeafState LeafVi
   pub a : (edge : ℕ) → edge < length plan.edges → Holds (wires_of_edge w.edges edge).a v (map down_fields (queue s.a edge))
   pub d : (edge : ℕ) → edge < length plan.edges → Holds (wires_of_edge w.edges edge).d v (map up_fields (queue s.d edge))
   pub leaf : (leaf : ℕ) → leaf < length plan.leaves
-      → Reached b (m leaf) (DoneFitsAt plan leaf (m leaf)) view_fields (view_at (wires_of_edges w.edges (ins_at plan leaf)) (wires_of_edges w.edges (outs_at plan leaf))) v (leaf_state s leaf)
+      → Reached b (m leaf) (Occurs plan leaf) view_fields (view_at (wires_of_edges w.edges (ins_at plan leaf)) (wires_of_edges w.edges (outs_at plan leaf))) v (leaf_state s leaf)
 
 module _ (law : PartsLaw) (b : Built) (plan : Plan) (m : ℕ → Machine LeafState LeafView LeafDone) (w : Wiring) (sound : IsSound plan) (wired : IsWired b plan m w) (machines : AreMachines plan m) where
   -- who gives to an edge and who takes from it
@@ -185,43 +221,15 @@ module _ (law : PartsLaw) (b : Built) (plan : Plan) (m : ℕ → Machine LeafSta
       done_plan : (leaf : ℕ) → done_by s leaf ≡ done_of plan s leaf
       done_plan leaf = ap (λ (p : Plan). done_of p s leaf) same_plan
 
-      -- ---- what leaves do fits
-
-      down_fits : (leaf edge : ℕ) (x : ABeat × Tag) → first_put edge (map (flow_down s) (leaf_moves s leaf)) ≡ Some x → FitWires (a_fields x.0) (a_widths (edge_at plan edge).bundle)
-      down_fits leaf edge x e = subst (λ (p : Plan). FitWires (a_fields x.0) (a_widths (edge_at p edge).bundle)) same_plan (fits_down s leaf edge x valid.puts e)
-
-      up_fits : (leaf edge : ℕ) (x : DBeat × Tag) → first_put edge (map (flow_up s) (leaf_moves s leaf)) ≡ Some x → FitWires (d_fields x.0) (d_widths (edge_at plan edge).bundle)
-      up_fits leaf edge x e = subst (λ (p : Plan). FitWires (d_fields x.0) (d_widths (edge_at p edge).bundle)) same_plan (fits_up s leaf edge x valid.puts e)
-
-      wide_edge : (ns : List ℕ) (k : ℕ) → k < length ns → get_or (map (edge_at plan) ns) k no_edge ≡ edge_at plan (get_or ns k 0)
-      wide_edge ns k l = get_or-map (edge_at plan) ns k 0 no_edge l
-
-      within_put : {B : Type 0} (ns : List ℕ) (put : ℕ → Option B) (k : ℕ) (beat : B) → get_or (map put ns) k None ≡ Some beat → k < length ns
-      within_put [] put k beat e = absurd (let x : None ≡ Some beat = e in cc)
-      within_put (n ∷ ns) put zero beat e = omega arith
-      within_put (n ∷ ns) put (suc k) beat e = let l = within_put ns put k beat e in omega (arith, l)
-
-      fit_done : (leaf : ℕ) → DoneFits (map (edge_at plan) (ins_at plan leaf)) (map (edge_at plan) (outs_at plan leaf)) (done_of plan s leaf)
-      fit_done leaf = record {
-        requests = λ k beat e.
-            let l = within_put (outs_at plan leaf) (λ edge. plain (first_put edge (map (flow_down s) (leaf_moves s leaf)))) k beat e in
-            subst (λ (p : PlanEdge). FitWires (a_fields beat) (a_widths p.bundle)) (sym (wide_edge (outs_at plan leaf) k l))
-            (put_fits a_fields (outs_at plan leaf) (λ edge. first_put edge (map (flow_down s) (leaf_moves s leaf))) (λ edge. a_widths (edge_at plan edge).bundle) (down_fits leaf) k beat e);
-        responses = λ k beat e.
-            let l = within_put (ins_at plan leaf) (λ edge. plain (first_put edge (map (flow_up s) (leaf_moves s leaf)))) k beat e in
-            subst (λ (p : PlanEdge). FitWires (d_fields beat) (d_widths p.bundle)) (sym (wide_edge (ins_at plan leaf) k l))
-            (put_fits d_fields (ins_at plan leaf) (λ edge. first_put edge (map (flow_up s) (leaf_moves s leaf))) (λ edge. d_widths (edge_at plan edge).bundle) (up_fits leaf) k beat e);
-      }
-
       at_machine : (leaf : ℕ) → leaf < length plan.leaves → IsMachineAt s leaf (m leaf)
       at_machine leaf l = machines.moves s leaf valid l
 
-      fits : (leaf : ℕ) → leaf < length plan.leaves → DoneFitsAt plan leaf (m leaf) (leaf_state s leaf) (seen_by s leaf)
-      fits leaf l = subst (λ (d : LeafDone). DoneFits (map (edge_at plan) (ins_at plan leaf)) (map (edge_at plan) (outs_at plan leaf)) d) (sym (done_plan leaf) ∙ (at_machine leaf l).does) (fit_done leaf)
+      occurs : (leaf : ℕ) → Occurs plan leaf (leaf_state s leaf) (seen_by s leaf)
+      occurs leaf = record { state = s; valid = valid; its_is = refl; sees_is = refl }
 
       does : (leaf : ℕ) → leaf < length plan.leaves → done_at (wires_of_leaf w.leaves leaf) v ≡ done_fields (done_of plan s leaf)
       does leaf l =
-          (wired.leaf leaf l).does v (leaf_state s leaf) (seen_by s leaf) (st.leaf leaf l) sol calm (sees leaf l) (fits leaf l)
+          (wired.leaf leaf l).does v (leaf_state s leaf) (seen_by s leaf) (st.leaf leaf l) sol calm (sees leaf l) (occurs leaf)
           ∙ ap done_fields (sym (at_machine leaf l).does ∙ done_plan leaf)
 
       -- ---- what is put and taken at a leaf's place
@@ -402,9 +410,9 @@ module _ (law : PartsLaw) (b : Built) (plan : Plan) (m : ℕ → Machine LeafSta
         leaf = λ leaf l.
             let e : leaf_state (state_after_cycle s offers) leaf ≡ leaf_state (state_after_moves s (leaf_moves s leaf)) leaf =
             ap (λ (o : Option Held). option_map_or (λ (held : Held). held.leaf) o BufferState) (parts.leaves.leaf leaf (subst (λ (p : Plan). leaf < length p.leaves) (sym same_plan) l)) in
-            subst (Reached b (m leaf) (DoneFitsAt plan leaf (m leaf)) view_fields (view_at (wires_of_edges w.edges (ins_at plan leaf)) (wires_of_edges w.edges (outs_at plan leaf))) u)
+            subst (Reached b (m leaf) (Occurs plan leaf) view_fields (view_at (wires_of_edges w.edges (ins_at plan leaf)) (wires_of_edges w.edges (outs_at plan leaf))) u)
             (sym (at_machine leaf l).after ∙ sym e)
-            (goes v u (leaf_state s leaf) (seen_by s leaf) (st.leaf leaf l) sol t calm (sees leaf l) (fits leaf l));
+            (goes v u (leaf_state s leaf) (seen_by s leaf) (st.leaf leaf l) sol t calm (sees leaf l) (occurs leaf));
       }
 
   -- ---- runs
@@ -419,7 +427,7 @@ module _ (law : PartsLaw) (b : Built) (plan : Plan) (m : ℕ → Machine LeafSta
     a = λ edge l. subst (Holds (wires_of_edge w.edges edge).a v) (ap (map down_fields) (sym (none_waits (length plan.edges) edge))) ((ended edge l).closed.a.starts v at);
     d = λ edge l. subst (Holds (wires_of_edge w.edges edge).d v) (ap (map up_fields) (sym (none_waits (length plan.edges) edge))) ((ended edge l).closed.d.starts v at);
     leaf = λ leaf l.
-        subst (Reached b (m leaf) (DoneFitsAt plan leaf (m leaf)) view_fields (view_at (wires_of_edges w.edges (ins_at plan leaf)) (wires_of_edges w.edges (outs_at plan leaf))) v)
+        subst (Reached b (m leaf) (Occurs plan leaf) view_fields (view_at (wires_of_edges w.edges (ins_at plan leaf)) (wires_of_edges w.edges (outs_at plan leaf))) v)
         (machines.idle leaf l) (begins v at);
   }
 

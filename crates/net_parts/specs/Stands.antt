@@ -1,6 +1,6 @@
 -- How the wires of a netlist stand to a state of the network. Only what isn't public beyond this
 -- repository's netlists cites it.
-use Rattle.std.specs.Prelude.{◌≡◌, ℕ, ◌<◌, ◌==◌, false, Bool, List, [], ◌∷◌, length, map, get_or, Option, None}
+use Rattle.std.specs.Prelude.{◌≡◌, ℕ, ◌<◌, ◌==◌, false, List, [], ◌∷◌, length, map, get_or, None}
 use Rattle.std.specs.Option.{option_map}
 use Rattle.tl_edge.specs.declared.beat.ABeat.{ABeat}
 use Rattle.tl_edge.specs.declared.beat.DBeat.{DBeat}
@@ -15,11 +15,10 @@ use Rattle.flow_choice.specs.declared.offers.Offers.{Offers}
 use Rattle.flow_choice.specs.Choosing.{flag_at, state_after_cycle}
 use Rattle.flow_choice.specs.Valid.{IsValid}
 use Rattle.net_build.specs.Built.{Built}
-use Rattle.net_build.specs.Values.{AtStart, Solves, Ticks, high}
+use Rattle.net_build.specs.Values.{Solves, Ticks, high}
 use Rattle.net_queue.specs.Leaves.{LeafDone, LeafView, put_told}
 use Rattle.net_queue.specs.Machines.{Machine}
 use Rattle.net_queue.specs.Queues.{shown_at, shown_of}
-use Rattle.net_ports.specs.Implementing.{AreOffersAt}
 use Rattle.net_cycle.specs.Parts.{IsMachineAt}
 use Rattle.net_parts.specs.Wired.{Wiring, wires_of_edge, wires_of_port}
 

@@ -1,14 +1,15 @@
 -- Queues, leaves and ports in wires, joined as a plan says. Only what isn't public beyond this
 -- repository's netlists cites it.
 use Rattle.std.specs.Prelude.{◌≡◌, ℕ, ◌<◌, ◌&&◌, List, [], length, map, get_or, Some, slice_get}
-use Rattle.tl_edge.specs.declared.plan.Leaf.{Leaf}
 use Rattle.tl_edge.specs.declared.plan.PlanPort.{PlanPort}
 use Rattle.tl_edge.specs.declared.plan.Plan.{Plan}
 use Rattle.tl_edge.specs.Plans.{Giver, Taker, GivesTo, TakesFrom}
 use Rattle.tl_edge.specs.Plans.Giver.{Out, Source}
 use Rattle.tl_edge.specs.Plans.Taker.{In, Sink}
 use Rattle.flow_core.specs.Leaves.{LeafState}
-use Rattle.net_build.specs.declared.types.Wire.{Wire}
+use Rattle.flow_core.specs.Network.{State}
+use Rattle.flow_core.specs.Turns.{leaf_state}
+use Rattle.flow_choice.specs.Valid.{IsValid}
 use Rattle.net_build.specs.Built.{Built}
 use Rattle.net_build.specs.Columns.{no_wire}
 use Rattle.net_build.specs.Values.{Tells, high}
@@ -16,9 +17,10 @@ use Rattle.net_queue.specs.declared.types.EdgeWires.{EdgeWires}
 use Rattle.net_queue.specs.declared.types.LeafWires.{LeafWires}
 use Rattle.net_queue.specs.declared.types.Put.{Put}
 use Rattle.net_queue.specs.declared.types.Queue.{Queue}
-use Rattle.net_queue.specs.Leaves.{AreWiresOf, DoneFitsAt, IsLeaf, LeafDone, LeafView, ins_at, outs_at}
+use Rattle.net_queue.specs.Leaves.{AreWiresOf, IsLeaf, LeafDone, LeafView, ins_at, outs_at}
 use Rattle.net_queue.specs.Machines.{Machine}
 use Rattle.net_queue.specs.Queues.{IsListOfTwo}
+use Rattle.net_cycle.specs.Parts.{seen_by}
 use Rattle.net_parts.specs.declared.types.EndWires.{EndWires}
 
 -- ---- what stands where there is nothing
@@ -95,14 +97,22 @@ pub record Wiring : Type 0 where
   pub source_ends : List EndWires
   pub sink_ends : List EndWires
 
--- The wires are joined as the plan says, where each leaf's wires are this machine.
+-- a state of a leaf, beside what it sees, as they are in some locally valid state of the plan's network
+pub record Occurs (plan : Plan) (leaf : ℕ) (its : LeafState) (sees : LeafView) : Type 0 where
+  pub state : State
+  pub valid : IsValid plan state
+  pub its_is : leaf_state state leaf ≡ its
+  pub sees_is : seen_by state leaf ≡ sees
+
+-- The wires are joined as the plan says, where each leaf's wires are this machine, as long as its states and what it
+-- sees occur in the network.
 pub record IsWired (b : Built) (plan : Plan) (m : ℕ → Machine LeafState LeafView LeafDone) (w : Wiring) : Type 0 where
   pub closed : (edge : ℕ) (giver : Giver) (taker : Taker) → GivesTo plan edge giver → TakesFrom plan edge taker
       → IsClosedEdge b (wires_of_edge w.edges edge) (giver_end w.leaves w.source_ends giver)
       (taker_end w.leaves w.sink_ends taker)
   pub leaf : (leaf : ℕ) → leaf < length plan.leaves
       → IsLeaf b (wires_of_edges w.edges (ins_at plan leaf)) (wires_of_edges w.edges (outs_at plan leaf))
-      (wires_of_leaf w.leaves leaf) (m leaf) (DoneFitsAt plan leaf (m leaf))
+      (wires_of_leaf w.leaves leaf) (m leaf) (Occurs plan leaf)
   pub shaped : (leaf : ℕ) → leaf < length plan.leaves
       → AreWiresOf b (wires_of_edges w.edges (ins_at plan leaf)) (wires_of_edges w.edges (outs_at plan leaf))
       (wires_of_leaf w.leaves leaf)

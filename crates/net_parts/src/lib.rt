@@ -4,5 +4,5 @@
 mod laws;
 mod types;
 
-pub use laws::wired_law;
+pub use laws::{puts_fit_law, wired_law};
 pub use types::{EndWires, Ends};

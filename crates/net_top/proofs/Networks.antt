@@ -1,11 +1,7 @@
 -- A whole builder's netlist is the network of its plan.
 use Rattle.std.proofs.Common.{◌≡◌, ℕ, zero, suc, ◌+◌, ◌<◌, ◌==◌, true, false, List, [], ◌∷◌, ◌++◌, length, map, flat_map, get_or, Option, Some, refl, sym, ap, ◌∙◌, subst, arith, slice_get}
-use Rattle.std.specs.Option.{option_map_or}
 use Rattle.std.proofs.lemmas.List.{map-append}
 use Rattle.std.proofs.lemmas.Option.{slice_get_within, get_or_from_slice_get}
-use Rattle.tl_params.specs.declared.ops.Template.{Template}
-use Rattle.tl_params.specs.declared.ops.Template.TheVariants.{Buffer, Width, Fragmenter, Shrinker, Xbar}
-use Rattle.tl_edge.specs.declared.plan.Leaf.{Leaf}
 use Rattle.tl_edge.specs.declared.plan.Plan.{Plan}
 use Rattle.tl_edge.specs.declared.plan.PlanPort.{PlanPort}
 use Rattle.tl_edge.specs.Plans.{edge_at}
@@ -13,14 +9,9 @@ use Rattle.tl_edge.specs.Plans.Giver.{Source}
 use Rattle.tl_edge.specs.Plans.Taker.{Sink}
 use Rattle.tl_edge.specs.SoundPlans.{IsSound}
 use Rattle.tl_edge.proofs.Ways.{ends_law}
-use Rattle.flow_core.specs.Leaves.{LeafState, leaf_at_start}
-use Rattle.flow_core.specs.Leaves.LeafState.{BufferState, XbarState, ShrinkerState, WidthState, FragmenterState}
-use Rattle.flow_core.specs.Network.{State, held_at_start, network_at_start}
-use Rattle.flow_core.specs.Tags.{Held}
-use Rattle.flow_core.specs.Turns.{leaf_state, next_id}
+use Rattle.flow_core.specs.Network.{State, network_at_start}
 use Rattle.flow_choice.specs.declared.offers.Offers.{Offers}
 use Rattle.flow_choice.specs.Choosing.{state_after_cycle}
-use Rattle.flow_choice.specs.Valid.{AreOfOne}
 use Rattle.net_cells.specs.declared.netlist.Netlist.{Netlist}
 use Rattle.net_cells.specs.declared.netlist.OutPort.{OutPort}
 use Rattle.net_cells.specs.declared.netlist.Port.{Port}
@@ -37,71 +28,39 @@ use Rattle.net_build.proofs.Places.{get_mapped}
 use Rattle.net_ports.specs.Implementing.{AreOffered, AreOffersAt, Implements, input_values, shown_values, outputs_by_cycle, outputs_of, sink_shows, sink_values, source_shows, source_values}
 use Rattle.net_ports.specs.Ports.{HasPorts, shown_port, sink_outputs, source_outputs}
 use Rattle.net_ports.specs.Rows.{values_from, widths_of_ports}
-use Rattle.net_cycle.specs.Laws.{BufferAtLaw}
 use Rattle.net_parts.specs.Law.{WiredLaw}
-use Rattle.net_parts.specs.Stands.{AreCycles, AreMachines, IsCalm, Offer, ShowAll, ShowEach}
-use Rattle.net_parts.specs.Wired.{IsWired, wires_of_port}
+use Rattle.net_parts.specs.Stands.{AreCycles, IsCalm, Offer, ShowAll, ShowEach}
+use Rattle.net_parts.specs.Wired.{IsWired, Occurs, wires_of_edges, wires_of_leaf, wires_of_port}
+use Rattle.net_parts.proofs.Weaker.{leaf_weaker}
 use Rattle.net_top.specs.declared.types.Laid.{Laid}
 use Rattle.net_faces.specs.declared.types.PortWires.{PortWires}
 use Rattle.net_faces.specs.declared.types.Shown.{Shown}
-use Rattle.net_leaves.specs.Buildable.{IsBuildable, is_buildable}
+use Rattle.net_queue.specs.Leaves.{IsLeaf, ins_at, outs_at}
+use Rattle.net_kinds.specs.Kinds.{MachinesLaw, fits_at, machine_at}
 use Rattle.net_faces.specs.PortRows.{sink_row, source_row}
-use Rattle.net_leaves.specs.LeafWiring.{machine_at}
 use Rattle.net_faces.specs.Showing.{all_shown}
 use Rattle.net_top.specs.Whole.{IsWhole, wiring}
 use Rattle.net_top.proofs.Offering.{sink_values_long, sinks_told, source_values_long, sources_told, values_all, values_back, values_behind, values_front}
 use Rattle.net_top.proofs.Sights.{rows_shown, rows_values, sink_sight, source_sight}
-
--- ---- leaves are machines
-
-only_buffer : (template : Template) → is_buildable template ≡ true → template ≡ Buffer
-only_buffer Buffer h = refl
-only_buffer Width h = absurd (let x : false ≡ true = h in cc)
-only_buffer Fragmenter h = absurd (let x : false ≡ true = h in cc)
-only_buffer Shrinker h = absurd (let x : false ≡ true = h in cc)
-only_buffer Xbar h = absurd (let x : false ≡ true = h in cc)
-
-starts_as : (plan : Plan) (at : Leaf) → at.template ≡ Buffer → leaf_at_start plan at ≡ BufferState
-starts_as plan at e = rw e refl
-
-stays_buffer : (state : LeafState) → AreOfOne BufferState state → state ≡ BufferState
-stays_buffer BufferState h = refl
-stays_buffer (XbarState bar gates) h = absurd h
-stays_buffer (ShrinkerState width slots) h = absurd h
-stays_buffer (WidthState widths widget) h = absurd h
-stays_buffer (FragmenterState knife hand) h = absurd h
 
 some_in : {A : Type 0} (xs : List A) (k : ℕ) → k < length xs → (x : A) × (slice_get xs k ≡ Some x)
 some_in [] k l = absurd (omega (arith, l))
 some_in (x ∷ xs) zero l = (x, refl)
 some_in (x ∷ xs) (suc k) l = some_in xs k (omega (arith, l))
 
-module _ (law : BufferAtLaw) (plan : Plan) (sound : IsSound plan) (buildable : IsBuildable plan) where
-  kind : (leaf : ℕ) (at : Leaf) → slice_get plan.leaves leaf ≡ Some at → at.template ≡ Buffer
-  kind leaf at e =
-      let l = slice_get_within plan.leaves leaf at e in
-      only_buffer at.template (subst (λ (x : Leaf). is_buildable x.template ≡ true) (get_or_from_slice_get plan.leaves leaf at at e) (buildable leaf at l))
-
-  pub are_machines : AreMachines plan machine_at
-  are_machines = record {
-    idle = λ leaf l.
-        let x = some_in plan.leaves leaf l in
-        sym (ap (λ (o : Option Held). option_map_or (λ (held : Held). held.leaf) o BufferState) (get_mapped (held_at_start plan) plan.leaves leaf x.0 x.1) ∙ starts_as plan x.0 (kind leaf x.0 x.1));
-    moves = λ state leaf valid l.
-        let x = some_in plan.leaves leaf l in
-        let h = some_in state.leaves leaf (subst (λ (n : ℕ). leaf < n) (sym valid.shape.leaves) l) in
-        let b : h.0.leaf ≡ BufferState = stays_buffer h.0.leaf (subst (λ (s : LeafState). AreOfOne s h.0.leaf) (starts_as plan x.0 (kind leaf x.0 x.1)) (valid.machines leaf x.0 h.0 x.1 h.1)) in
-        let s : leaf_state state leaf ≡ BufferState = ap (λ (o : Option Held). option_map_or (λ (held : Held). held.leaf) o BufferState) h.1 ∙ b in
-        law plan state leaf BufferState (λ leaf. 0) sound valid (record { at = x.0; is = x.1; kind = kind leaf x.0 x.1 }) (sym (ap next_id s));
-  }
-
 -- ---- the wires are joined
 
 module _ (b : Built) (plan : Plan) (ports : PortWires) (laid : Laid) (shown : Shown) (sound : IsSound plan) (whole : IsWhole b plan ports laid shown) where
-  pub are_wired : IsWired b plan machine_at (wiring ports laid)
-  are_wired = record {
+  -- each leaf's wires are its machine
+  leaf_wired : MachinesLaw → (leaf : ℕ) → leaf < length plan.leaves
+      → IsLeaf b (wires_of_edges laid.edges (ins_at plan leaf)) (wires_of_edges laid.edges (outs_at plan leaf)) (wires_of_leaf laid.leaves leaf) (machine_at plan leaf) (Occurs plan leaf)
+  leaf_wired kinds leaf l =
+      leaf_weaker b (machine_at plan leaf) (fits_at plan leaf) (Occurs plan leaf) (λ s x o. kinds.fits plan leaf s x sound l o) (wires_of_edges laid.edges (ins_at plan leaf)) (wires_of_edges laid.edges (outs_at plan leaf)) (wires_of_leaf laid.leaves leaf) (whole.leaves.each leaf l).machine
+
+  pub are_wired : MachinesLaw → IsWired b plan (machine_at plan) (wiring ports laid)
+  are_wired kinds = record {
     closed = λ edge giver taker g t. whole.closed.each edge giver taker (ends_law.given plan edge giver sound g) g t;
-    leaf = λ leaf l. (whole.leaves.each leaf l).machine;
+    leaf = leaf_wired kinds;
     shaped = λ leaf l. (whole.leaves.each leaf l).shaped;
     source = λ port at e. (whole.source_ends.each port at e).passes;
     sink = λ port at e. (whole.sink_ends.each port at e).passes;
@@ -236,14 +195,14 @@ module _ (b : Built) (plan : Plan) (ports : PortWires) (laid : Laid) (shown : Sh
         ap (λ (x : List ℕ). x ∷ map (outputs_of n) (u ∷ vs)) (outputs_are v ∙ sights (at_wires b v) s (keeps.solves _ v r.1) good.1.shape.plan e.0)
         ∙ ap (λ (xs : List (List ℕ)). shown_values s ∷ xs) (shows_each (state_after_cycle s offers) later cycles (next_registers n v) u vs good.2 r.2 e.1)
 
-    module _ (law : WiredLaw) (machines : AreMachines plan machine_at) where
+    module _ (law : WiredLaw) (kinds : MachinesLaw) where
       runs : (cycles : List Offers) (values : List (ℕ → ℕ)) → AreOffered plan (network_at_start plan) cycles → IsRun n (map input_values cycles) values → map (outputs_of n) values ≡ outputs_by_cycle (network_at_start plan) cycles
       runs [] [] good r = refl
       runs [] (v ∷ vs) good r = absurd r
       runs (offers ∷ cycles) [] good r = absurd r
       runs (offers ∷ cycles) (v ∷ vs) good r =
           shows_each (network_at_start plan) offers cycles (first_registers n) v vs good r
-          (law b plan machine_at (wiring ports laid) offers cycles (at_wires b v) (map (at_wires b) vs) sound are_wired machines good
+          (law b plan (machine_at plan) (wiring ports laid) offers cycles (at_wires b v) (map (at_wires b) vs) sound (are_wired kinds) (kinds.machines plan sound) good
           (keeps.starts (input_values offers) v r.0 r.1)
           (cycles_of (network_at_start plan) offers cycles (first_registers n) v vs good r))
 

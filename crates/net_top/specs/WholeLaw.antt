@@ -10,12 +10,10 @@ use Rattle.net_ports.specs.Implementing.{Implements}
 use Rattle.net_top.specs.declared.types.Laid.{Laid}
 use Rattle.net_faces.specs.declared.types.PortWires.{PortWires}
 use Rattle.net_faces.specs.declared.types.Shown.{Shown}
-use Rattle.net_leaves.specs.Buildable.{IsBuildable}
 use Rattle.net_top.specs.Whole.{IsWhole}
 
 -- a finished netlist in which each wire keeps its value implements the plan of its wires
 abbrev pub WholeLaw : Type 0
 WholeLaw =
     (b : Built) (plan : Plan) (ports : PortWires) (laid : Laid) (shown : Shown) (netlist : Netlist) → IsSound plan
-    → IsBuildable plan → IsWhole b plan ports laid shown → netlist ≡ finished b → KeepsValues netlist b
-    → Implements plan netlist
+    → IsWhole b plan ports laid shown → netlist ≡ finished b → KeepsValues netlist b → Implements plan netlist

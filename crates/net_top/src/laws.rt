@@ -3,7 +3,7 @@ ghost use Rattle.net_top.specs.Runs.{ResetLaw, RunsLaw};
 ghost use Rattle.net_top.specs.WholeLaw.{WholeLaw};
 
 use net_cells::runs_law;
-use net_cycle::buffer_at_law;
+use net_kinds::machines_law;
 use net_parts::wired_law;
 use tl_edge::{heads_law, legal_law, wires_law};
 
@@ -12,8 +12,8 @@ use tl_edge::{heads_law, legal_law, wires_law};
 pub fn whole_law()
     ensures { WholeLaw }
 {
+    machines_law();
     wired_law();
-    buffer_at_law();
 }
 
 /// A well-formed netlist without a loop that has the ports of a plan has exactly one run for each list of

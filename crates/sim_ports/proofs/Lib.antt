@@ -2,9 +2,12 @@ pub mod Bytewise
 pub mod Gathered
 pub mod Laid
 pub mod Limits
+pub mod Nexts
 pub mod Onward
 pub mod Placed
 pub mod Replaced
 pub mod Roomy
+pub mod Rows
 pub mod Serves
+pub mod Spliced
 pub mod Worked

@@ -5,6 +5,8 @@ pub mod Layout
 pub mod Kept
 pub mod Sources
 pub mod Sinks
+pub mod Prepared
+pub mod Nexts
 pub mod Rooms
 pub mod Examples
 pub mod SinkLaws

@@ -1,4 +1,5 @@
 ghost use Rattle.sim_ports.specs.Examples.{AtomicsExample, MemoriesExample, PortExample};
+ghost use Rattle.sim_ports.specs.Prepared.{PreparedLaw};
 ghost use Rattle.sim_ports.specs.SinkExample.{SinkExample};
 ghost use Rattle.sim_ports.specs.SinkLaws.{SinkLaw};
 
@@ -14,4 +15,10 @@ pub fn examples_law()
 /// delay and what its device states; and when all beats of a request have left, the device has answered it.
 pub fn sink_law()
     ensures { SinkLaw }
+{}
+
+/// Where a device is prepared at addresses that rise, a port with it at which nothing has happened is
+/// prepared.
+pub fn prepared_law()
+    ensures { PreparedLaw }
 {}

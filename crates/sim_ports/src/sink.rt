@@ -1,12 +1,16 @@
-ghost use Rattle.std.specs.Prelude.{◌≡◌, ◌≤◌, ◌<◌, ◌+◌, ◌++◌, ◌∷◌, [], length, true, false, drop, IsSome, IsTrue, IfOk, List};
+ghost use Rattle.std.specs.Prelude.{◌≡◌, ◌↔◌, ◌≤◌, ◌<◌, ◌+◌, ◌++◌, ◌∷◌, [], cond, length, true, false, drop, IsSome, IsTrue, IfOk, List};
 ghost use Rattle.tl_params.specs.Arguments.{is_width};
 ghost use Rattle.tl_edge.specs.declared.beat.Event.{Event};
 ghost use Rattle.tl_edge.specs.declared.beat.What.TheVariants.{Leave};
 ghost use Rattle.tl_edge.specs.Joined.{joined_request};
 ghost use Rattle.sim_ports.specs.Devices as devices;
+ghost use Rattle.sim_ports.specs.Nexts.{MayTake};
+ghost use Rattle.sim_ports.specs.Prepared.{AreRising, IsPreparedAt};
 ghost use Rattle.sim_ports.specs.Sinks as spec;
 
 use crate::device::Device;
+use crate::next::passes_test;
+use crate::prepared::Prepared;
 use crate::room::{Rooms, filled, place_of, rooms};
 use dip_lists::Memory;
 use std::alloc::Global;
@@ -122,6 +126,15 @@ impl SinkPort {
         ensures { self.new ≡ spec.after_reply self.old }
     {
         self.passed += 1;
+    }
+
+    // Whether a beat may be the next one of a request which a device with these addresses may be asked.
+    fn may_take(&self, addresses: &[u64], beat: &ABeat) -> bool
+        requires { AreRising addresses.now }
+        ensures may { IsTrue result ↔ MayTake addresses.now self.now beat.now }
+        ensures bus { IsTrue (is_width self.now.width) }
+    {
+        self.takes(false) && passes_test(addresses, self.width, self.taken(), beat)
     }
 
     // A beat more has left of a request, and it isn't the last one.
@@ -242,6 +255,27 @@ impl SinkDriver {
             (meaning self.old.device).held }
     {
         self.leave(cycle, beat);
+    }
+
+    /// A beat leaves in a cycle at a port whose device is prepared at these addresses, if it is the next one
+    /// of a request that the device may be asked: whether it is. Nothing changes where it isn't.
+    pub fn try_leave(&mut self, cycle: u32, beat: &ABeat, prepared: &Prepared) -> bool
+        requires { IsPreparedAt prepared.now.addresses
+            (spec.sinking (meaning self.old.device) self.old.port) }
+        ensures may { IsTrue result
+            ↔ spec.MayLeave (spec.sinking (meaning self.old.device) self.old.port) beat.now }
+        ensures now { spec.sinking (meaning self.new.device) self.new.port
+            ≡ cond result (spec.after_leave (spec.sinking (meaning self.old.device) self.old.port) cycle
+            beat.now)
+            (spec.sinking (meaning self.old.device) self.old.port) }
+        ensures prepared { IsPreparedAt prepared.now.addresses
+            (spec.sinking (meaning self.new.device) self.new.port) }
+    {
+        let may = self.port.may_take(prepared.addresses.as_slice(), beat);
+        if may {
+            self.leave(cycle, beat);
+        }
+        may
     }
 
     /// The beat that is offered in a cycle has passed.

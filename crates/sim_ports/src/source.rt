@@ -184,6 +184,23 @@ impl SourceDriver {
         self.left.set(id, left - 1);
     }
 
+    /// A beat returns, if its id is busy: whether it is. Nothing changes where it isn't.
+    pub fn try_return(&mut self, beat: &DBeat) -> bool
+        ensures may { result ≡ spec.waits_for self.old beat.now.source }
+        ensures busy { (script : spec.Script) (history : List Event) → spec.Sends script history self.old
+            → beat.now.source < script.ids → result ≡ spec.is_busy script history beat.now.source }
+        ensures said { IsTrue result → (script : spec.Script) (history : List Event) (event : Event)
+            → event.what ≡ Return beat.now → spec.Sends script history self.old
+            → spec.Sends script (history ++ event ∷ []) self.new }
+        ensures same { result ≡ false → self.new ≡ self.old }
+    {
+        let busy = self.is_busy(beat.source);
+        if busy {
+            self.returned(beat);
+        }
+        busy
+    }
+
     /// How many requests have begun: their first beat has entered.
     pub fn begun(&self) -> u32
         ensures { (script : spec.Script) (history : List Event) → spec.Sends script history self.now

@@ -3,19 +3,21 @@ use Rattle.std.proofs.Common.{◌≡◌, ℕ, zero, suc, ◌+◌, ◌*◌, ◌<�
 use Rattle.std.specs.Prelude.{slice_get, unwrap_or}
 use Rattle.std.specs.Option.{option_map}
 use Rattle.std.proofs.Math.Seq.{drop-cons}
-use Rattle.std.proofs.lemmas.Bool.{cases_lt}
-use Rattle.std.proofs.lemmas.Option.{slice_get-get_or}
-use Rattle.std.proofs.lemmas.List.{append_assoc, append-nil, drop-drop, take_all, length-drop}
+use Rattle.std.proofs.lemmas.Bool.{cases_lt, cases_order}
+use Rattle.std.proofs.lemmas.Option.{get_or_from_slice_get, slice_get-get_or}
+use Rattle.std.proofs.lemmas.List.{append_assoc, append-nil, drop-drop, take_all, length-drop, length-map, length-set}
 use Rattle.tl_edge.specs.declared.beat.Event.{Event}
 use Rattle.sim_ports.specs.Sources.{Script, Sending, Sends}
 use Rattle.net_build.proofs.Driven.{get_set_other, get_set_same}
-use Rattle.sim_ports.specs.Sinks.{Sinking, served}
+use Rattle.sim_ports.specs.declared.prepared.Prepared.{Prepared}
+use Rattle.sim_ports.specs.Prepared.{ArePrepared, IsPreparedAt}
+use Rattle.sim_ports.specs.Sinks.{Sinking, after_what, served}
 use Rattle.sim_events.specs.declared.types.SinkOffer.{SinkOffer}
 use Rattle.sim_events.specs.declared.types.SourceOffer.{SourceOffer}
 use Rattle.sim_events.specs.declared.types.SinkView.{SinkView}
 use Rattle.sim_events.specs.Passing.{sink_events, source_events}
 use Rattle.sim_events.specs.Reading.{sink_events_from, sink_view, source_events_from, source_view}
-use Rattle.sim_run.specs.Telling.{AllHear, AllHeard, AllServed, events_at_sink, HasHeard, Hears, MayHearAll, events_at_source}
+use Rattle.sim_run.specs.Telling.{AllHear, AllHeard, AllMayServe, AllServed, MayServeAll, events_at_sink, HasHeard, Hears, MayHearAll, events_at_source}
 
 part_heard : (script : Script) (h es fs : List Event) → MayHearAll script h (es ++ fs) → MayHearAll script h es × MayHearAll script (h ++ es) fs
 part_heard script h [] fs m = (tt, subst (λ (x : List Event). MayHearAll script x fs) (sym (append-nil h)) m)
@@ -143,3 +145,59 @@ from_place xs n = take_all (length xs - n) (drop n xs) (omega (arith, length-dro
 -- with the same view
 pub served_alike : (sink new : Sinking) (events : SinkView → List Event) (v w : SinkView) → new ≡ served sink (events v) → v ≡ w → new ≡ served sink (events w)
 served_alike sink new events v w e q = e ∙ ap (λ x. served sink (events x)) q
+
+-- ---- one list of events after another, at a sink port
+
+part_served : (sink : Sinking) (es fs : List Event) → MayServeAll sink (es ++ fs) → MayServeAll sink es
+part_served sink [] fs m = tt
+part_served sink (e ∷ es) fs m = (m.0, part_served (after_what sink e.cycle e.what) es fs m.1)
+
+pub front_may : (sink : Sinking) (all es fs : List Event) → all ≡ es ++ fs → MayServeAll sink all → MayServeAll sink es
+front_may sink all es fs e m = part_served sink es fs (subst (λ (x : List Event). MayServeAll sink x) e m)
+
+pub with_view : (sink : Sinking) (events : SinkView → List Event) (v w : SinkView) → v ≡ w → MayServeAll sink (events w) → MayServeAll sink (events v)
+with_view sink events v w e m = subst (λ (x : SinkView). MayServeAll sink (events x)) (sym e) m
+
+served_both : (sink : Sinking) (es fs : List Event) → served sink (es ++ fs) ≡ served (served sink es) fs
+served_both sink [] fs = refl
+served_both sink (e ∷ es) fs = served_both (after_what sink e.cycle e.what) es fs
+
+pub now_served : (old mid new : Sinking) (es fs : List Event) → mid ≡ served old es → new ≡ served mid fs → new ≡ served old (es ++ fs)
+now_served old mid new es fs e f = f ∙ ap (λ x. served x fs) e ∙ sym (served_both old es fs)
+
+-- ---- what is prepared
+
+module _ {A : Type 0} (f : A → Sinking) (prepared : List Prepared) where
+  -- the device at a port is
+  pub prepared_there : (p : ℕ) (drivers : List A) (d : A) (at : Prepared) → ArePrepared prepared (map f drivers) → p < length drivers
+      → at ≡ get_or prepared p at → IsPreparedAt at.addresses (f (get_or drivers p d))
+  prepared_there p drivers d at h l e =
+      let long : length prepared ≡ length drivers = h.long ∙ length-map drivers f in
+      h.each p at (f (get_or drivers p d)) (slice_get-get_or prepared p at (omega (arith, l, long)) ∙ ap (λ a. Some a) (sym e))
+      (get_map f drivers p ∙ ap (option_map f) (slice_get-get_or drivers p d l))
+
+  -- and all are with a driver that is prepared in its place
+  pub one_prepared : (p : ℕ) (drivers : List A) (new : A) (there : Prepared) → ArePrepared prepared (map f drivers) → p < length drivers
+      → there ≡ get_or prepared p there → IsPreparedAt there.addresses (f new) → ArePrepared prepared (map f (set drivers p new))
+  one_prepared p drivers new there h l e k = record {
+    long = h.long ∙ length-map drivers f ∙ sym (length-set drivers p new) ∙ sym (length-map (set drivers p new) f);
+    each = λ port at sink a s. elim (cases_order port p) [
+      | inl q ↦
+          let is : f new ≡ sink = some_same _ _ (sym (ap (option_map f) (get_set_same drivers p new l)) ∙ sym (get_map f (set drivers p new) p) ∙ ap (slice_get (map f (set drivers p new))) (sym q) ∙ s) in
+          let here : there ≡ at = e ∙ get_or_from_slice_get prepared p at there (ap (slice_get prepared) (sym q) ∙ a) in
+          subst (λ z. IsPreparedAt at.addresses z) is (subst (λ (z : Prepared). IsPreparedAt z.addresses (f new)) here k)
+      | inr o ↦
+          let other : port ≡ p → ⊥ = λ e. elim o [
+            | inl b ↦ omega (arith, e, b)
+            | inr b ↦ omega (arith, e, b)
+          ] in
+          h.each port at sink a (get_map f drivers port ∙ ap (option_map f) (sym (get_set_other drivers p new port other)) ∙ sym (get_map f (set drivers p new) port) ∙ s)
+    ];
+  }
+
+-- the events of a port that may be told, with its driver as it is kept
+pub may_there : {A : Type 0} (f : A → Sinking) (cycle : ℕ) (offers : List SinkOffer) (outputs : List ℕ) (p : ℕ) (olds news : List A) (d : A)
+    → AllMayServe cycle offers outputs (map f olds) → AreUntold p olds news → p < length news
+    → MayServeAll (f (get_or news p d)) (events_at_sink cycle offers outputs p)
+may_there f cycle offers outputs p olds news d h u l =
+    h.each p (f (get_or news p d)) (get_map f olds p ∙ ap (option_map f) (untold_there p olds news d u l))

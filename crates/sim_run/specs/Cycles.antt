@@ -29,11 +29,3 @@ pub record IsGood (setup : Setup) (netlist : Netlist) (cycle : ℕ) : Type 0 whe
   pub orderly : IsOrderly setup netlist cycle
   pub may : MayTell setup (events_until setup cycle) cycle (sources_in (run_offers setup cycle (run_at setup cycle)))
       (sinks_in (run_offers setup cycle (run_at setup cycle))) (shown_values (run_at setup cycle).network)
-
--- a run may go on: for some setup it stands so, and the next cycle is good
-pub record MayGoOn (cycle : ℕ) (engine : Running) (stalls : List Stall) (sources : List Sending) (sinks : List Sinking)
-    : Type 0 where
-  pub setup : Setup
-  pub netlist : Netlist
-  pub stands : StandsAfter setup netlist cycle engine stalls sources sinks
-  pub good : IsGood setup netlist cycle

@@ -47,6 +47,7 @@ impl Buffers {
             ≡ server_offers stalls.now cycle 0 (map (λ driver. driver.port) sinks.now) }
         ensures cycle { RunsCycle engine.old (fitted (input_widths engine.old.netlist)
             (cycle_inputs self.new.sources.items self.new.sinks.items)) self.new.outputs.items engine.new }
+        ensures netlist { engine.new.netlist ≡ engine.old.netlist }
         ensures as_many_sources { length self.new.sources.items ≡ length sources.now }
         ensures as_many_sinks { length self.new.sinks.items ≡ length sinks.now }
         ensures fits { FitsPorts self.new engine.new.netlist (length sources.now) (length sinks.now) }

@@ -1,16 +1,16 @@
-ghost use Rattle.std.specs.Prelude.{◌≡◌, ◌≤◌, ◌<◌, ◌+◌, ◌*◌, ◌∷◌, ◌++◌, [], ℕ, IsSome, List, Some, length, map, false, get_or, vec_len, vec_capacity};
+ghost use Rattle.std.specs.Prelude.{◌≡◌, ◌≤◌, ◌<◌, ◌+◌, ◌*◌, ◌∷◌, ◌++◌, [], ℕ, IsSome, List, None, Some, length, map, false, get_or, vec_len, vec_capacity};
 ghost use Rattle.tl_edge.specs.declared.beat.ABeat.{ABeat};
 ghost use Rattle.tl_edge.specs.declared.beat.Event.{Event};
 ghost use Rattle.tl_edge.specs.declared.beat.What.TheVariants.{Enter, Return, Leave, Reply};
-ghost use Rattle.sim_ports.specs.Devices.{HaveSame};
-ghost use Rattle.sim_ports.specs.Sinks.{MayLeave, served, sinking, sink_offers};
+ghost use Rattle.sim_ports.specs.Prepared.{ArePrepared, IsPreparedAt};
+ghost use Rattle.sim_ports.specs.Sinks.{served, sinking, sink_offers};
 ghost use Rattle.sim_ports.specs.Sources.{Script, Sending, Sends, offers_now};
 ghost use Rattle.sim_events.specs.Passing.{happening, sink_events, source_events};
 ghost use Rattle.sim_events.specs.Reading.{sink_events_from, sink_outputs_count, source_events_from, source_outputs_count};
 ghost use Rattle.sim_run.specs.Telling as spec;
 
 use sim_events::{SinkOffer, SinkView, SourceOffer, SourceView, sink_view, source_view};
-use sim_ports::{Device, SinkDriver, SourceDriver};
+use sim_ports::{Device, Prepared, SinkDriver, SourceDriver};
 use tl_edge::{ABeat, DBeat, Event, What};
 
 // Adds an event to those of a cycle, for which there is room.
@@ -62,9 +62,8 @@ fn give_back(
     ensures room { vec_capacity shown.new ≡ vec_capacity shown.old }
 {
     if let Some(beat) = beat
-        && driver.is_busy(beat.source)
+        && driver.try_return(&beat)
     {
-        driver.returned(&beat);
         show(shown, cycle, port, What::Return(beat));
     }
 }
@@ -90,32 +89,42 @@ fn tell_source(
     give_back(driver, shown, cycle, port, offer.returns(view));
 }
 
-// A beat leaves at a sink port, if one does; with the last one of a request the device answers.
+// A beat leaves at a sink port, if one does and is the next one of a request that the device may be asked;
+// with the last one of a request the device answers.
 fn leave(
     driver: &mut SinkDriver,
+    prepared: &Prepared,
     shown: &mut Vec<Event>,
     cycle: u32,
     port: u32,
     beat: Option<ABeat>,
 )
-    requires may { (leaving : ABeat) → beat ≡ Some leaving → MayLeave (sinking
-        ((⟦<dyn Device as Device>⟧ driver.old.device.vtable).meaning driver.old.device.value) driver.old.port)
-        leaving }
+    requires prepared { IsPreparedAt prepared.now.addresses
+        (sinking ((⟦<dyn Device as Device>⟧ driver.old.device.vtable).meaning driver.old.device.value)
+        driver.old.port) }
     requires room { vec_len shown.old < vec_capacity shown.old }
-    ensures events { shown.new.items ≡ shown.old.items ++ happening cycle port Leave beat }
-    ensures served { (sinking
+    ensures events { spec.MayServeAll (sinking
+        ((⟦<dyn Device as Device>⟧ driver.old.device.vtable).meaning driver.old.device.value) driver.old.port)
+        (happening cycle port Leave beat)
+        → shown.new.items ≡ shown.old.items ++ happening cycle port Leave beat }
+    ensures served { spec.MayServeAll (sinking
+        ((⟦<dyn Device as Device>⟧ driver.old.device.vtable).meaning driver.old.device.value) driver.old.port)
+        (happening cycle port Leave beat)
+        → (sinking
         ((⟦<dyn Device as Device>⟧ driver.new.device.vtable).meaning driver.new.device.value) driver.new.port)
         ≡ served (sinking
         ((⟦<dyn Device as Device>⟧ driver.old.device.vtable).meaning driver.old.device.value) driver.old.port)
         (happening cycle port Leave beat) }
-    ensures addresses { HaveSame
-        ((⟦<dyn Device as Device>⟧ driver.new.device.vtable).meaning driver.new.device.value).held
-        ((⟦<dyn Device as Device>⟧ driver.old.device.vtable).meaning driver.old.device.value).held }
+    ensures none { beat ≡ None → driver.new.port ≡ driver.old.port }
+    ensures prepared { IsPreparedAt prepared.now.addresses
+        (sinking ((⟦<dyn Device as Device>⟧ driver.new.device.vtable).meaning driver.new.device.value)
+        driver.new.port) }
     ensures long { vec_len shown.new ≤ vec_len shown.old + 1 }
     ensures room { vec_capacity shown.new ≡ vec_capacity shown.old }
 {
-    if let Some(beat) = beat {
-        driver.left(cycle, &beat);
+    if let Some(beat) = beat
+        && driver.try_leave(cycle, &beat, prepared)
+    {
         show(shown, cycle, port, What::Leave(beat));
     }
 }
@@ -136,6 +145,11 @@ fn reply(
         ≡ served (sinking
         ((⟦<dyn Device as Device>⟧ driver.old.device.vtable).meaning driver.old.device.value) driver.old.port)
         (happening cycle port Reply beat) }
+    ensures prepared { (addresses : List ℕ) → IsPreparedAt addresses
+        (sinking ((⟦<dyn Device as Device>⟧ driver.old.device.vtable).meaning driver.old.device.value)
+        driver.old.port) → IsPreparedAt addresses
+        (sinking ((⟦<dyn Device as Device>⟧ driver.new.device.vtable).meaning driver.new.device.value)
+        driver.new.port) }
     ensures long { vec_len shown.new ≤ vec_len shown.old + 1 }
     ensures room { vec_capacity shown.new ≡ vec_capacity shown.old }
 {
@@ -179,9 +193,10 @@ pub fn tell_sources(
     }
 }
 
-// Tells the driver of a sink port what happens there in a cycle.
+// Tells the driver of a sink port what happens there in a cycle and may be told.
 fn tell_sink(
     driver: &mut SinkDriver,
+    prepared: &Prepared,
     shown: &mut Vec<Event>,
     cycle: u32,
     port: u32,
@@ -189,27 +204,37 @@ fn tell_sink(
     view: &SinkView,
 )
     requires offered { spec.IsServing cycle offer.now driver.old.port }
-    requires may { spec.MayServeAll (sinking
-        ((⟦<dyn Device as Device>⟧ driver.old.device.vtable).meaning driver.old.device.value) driver.old.port)
-        (sink_events cycle port offer.now view.now) }
+    requires prepared { IsPreparedAt prepared.now.addresses
+        (sinking ((⟦<dyn Device as Device>⟧ driver.old.device.vtable).meaning driver.old.device.value)
+        driver.old.port) }
     requires room { vec_len shown.old + 2 ≤ vec_capacity shown.old }
-    ensures events { shown.new.items ≡ shown.old.items ++ sink_events cycle port offer.now view.now }
-    ensures served { (sinking
+    ensures events { spec.MayServeAll (sinking
+        ((⟦<dyn Device as Device>⟧ driver.old.device.vtable).meaning driver.old.device.value) driver.old.port)
+        (sink_events cycle port offer.now view.now)
+        → shown.new.items ≡ shown.old.items ++ sink_events cycle port offer.now view.now }
+    ensures served { spec.MayServeAll (sinking
+        ((⟦<dyn Device as Device>⟧ driver.old.device.vtable).meaning driver.old.device.value) driver.old.port)
+        (sink_events cycle port offer.now view.now)
+        → (sinking
         ((⟦<dyn Device as Device>⟧ driver.new.device.vtable).meaning driver.new.device.value) driver.new.port)
         ≡ served (sinking
         ((⟦<dyn Device as Device>⟧ driver.old.device.vtable).meaning driver.old.device.value) driver.old.port)
         (sink_events cycle port offer.now view.now) }
+    ensures prepared { IsPreparedAt prepared.now.addresses
+        (sinking ((⟦<dyn Device as Device>⟧ driver.new.device.vtable).meaning driver.new.device.value)
+        driver.new.port) }
     ensures long { vec_len shown.new ≤ vec_len shown.old + 2 }
     ensures room { vec_capacity shown.new ≡ vec_capacity shown.old }
 {
-    leave(driver, shown, cycle, port, offer.leaves(view));
+    leave(driver, prepared, shown, cycle, port, offer.leaves(view));
     reply(driver, shown, cycle, port, offer.replies(view));
 }
 
-/// Tells the drivers of all sink ports what happens there in a cycle, and lets their devices answer. It takes
-/// no memory.
+/// Tells the drivers of all sink ports what happens there in a cycle and may be told, and lets their devices
+/// answer. It takes no memory.
 pub fn tell_sinks(
     drivers: &mut [SinkDriver],
+    prepared: &[Prepared],
     shown: &mut Vec<Event>,
     cycle: u32,
     offers: &[SinkOffer],
@@ -220,13 +245,22 @@ pub fn tell_sinks(
     requires outputs { sink_outputs_count * length drivers.old ≤ length outputs.now }
     requires room { vec_len shown.old + 2 * length drivers.old ≤ vec_capacity shown.old }
     requires offered { spec.AllServing cycle offers.now (map (λ driver. driver.port) drivers.old) }
-    requires may { spec.AllMayServe cycle offers.now outputs.now (map (λ driver. sinking
+    requires prepared { ArePrepared prepared.now (map (λ driver. sinking
         ((⟦<dyn Device as Device>⟧ driver.device.vtable).meaning driver.device.value) driver.port)
         drivers.old) }
-    ensures events { shown.new.items ≡ shown.old.items ++ sink_events_from cycle 0 offers.now outputs.now }
-    ensures served { spec.AllServed cycle offers.now outputs.now (length drivers.old) (map (λ driver. sinking
+    ensures events { spec.AllMayServe cycle offers.now outputs.now (map (λ driver. sinking
+        ((⟦<dyn Device as Device>⟧ driver.device.vtable).meaning driver.device.value) driver.port)
+        drivers.old)
+        → shown.new.items ≡ shown.old.items ++ sink_events_from cycle 0 offers.now outputs.now }
+    ensures served { spec.AllMayServe cycle offers.now outputs.now (map (λ driver. sinking
+        ((⟦<dyn Device as Device>⟧ driver.device.vtable).meaning driver.device.value) driver.port)
+        drivers.old)
+        → spec.AllServed cycle offers.now outputs.now (length drivers.old) (map (λ driver. sinking
         ((⟦<dyn Device as Device>⟧ driver.device.vtable).meaning driver.device.value) driver.port)
         drivers.old) (map (λ driver. sinking
+        ((⟦<dyn Device as Device>⟧ driver.device.vtable).meaning driver.device.value) driver.port)
+        drivers.new) }
+    ensures prepared { ArePrepared prepared.now (map (λ driver. sinking
         ((⟦<dyn Device as Device>⟧ driver.device.vtable).meaning driver.device.value) driver.port)
         drivers.new) }
     ensures same { length drivers.new ≡ length drivers.old }
@@ -237,6 +271,7 @@ pub fn tell_sinks(
         let view = sink_view(&outputs[9 * port..]);
         tell_sink(
             &mut drivers[port],
+            &prepared[port],
             shown,
             cycle,
             port as u32,

@@ -42,7 +42,7 @@ returns-clause-implements c =
     let laid = c.in_ok-laid.laid in
     let shown = c.in_ok-shown.shown in
     let e = c.as_slice-edges.ensures in
-    c.whole_law.ensures _ plan c.in_ok-ports.ports laid shown c.in_ok-netlist.netlist c.requires.sound c.requires.buildable
+    c.whole_law.ensures _ plan c.in_ok-ports.ports laid shown c.in_ok-netlist.netlist c.requires.sound
     (whole plan c.in_ok-ports.ports laid shown _ _ _ _ c.in_ok-builder.ensures c.in_ok-ports.ensures.adds c.in_ok-laid.ensures.opens c.in_ok-shown.ensures.adds c.requires.sound _ _ _
     (record {
       sources = c.in_ok-ports.ensures.sources;

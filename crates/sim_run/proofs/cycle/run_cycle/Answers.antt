@@ -12,14 +12,6 @@ pub tell_all-requires-clause-serving : goal.tell_all-requires-clause-serving
 tell_all-requires-clause-serving g c =
     all_serving c.args.stalls.now c.args.cycle _ c.turn.new.self.sinks.items c.turn.ensures.sinks
 
-pub tell_all-requires-clause-may : goal.tell_all-requires-clause-may
-tell_all-requires-clause-may g c =
-    may_serve c.requires.goes.setup c.requires.goes.netlist c.args.cycle c.args.engine.now c.turn.new.engine c.args.stalls.now c.args.sources.now
-    (map (λ s. sinking ((goal.Device-dyn g (s.device.vtable, s.device.value)).meaning s.device.value) s.port) c.args.sinks.now)
-    c.turn.new.self.sources.items c.turn.new.self.sinks.items c.turn.new.self.outputs.items c.requires.goes.stands c.requires.goes.good c.turn.ensures.sources
-    (c.turn.ensures.sinks ∙ ap (server_offers c.args.stalls.now c.args.cycle 0) (ports_of (λ s. sinking ((goal.Device-dyn g (s.device.vtable, s.device.value)).meaning s.device.value) s.port) (λ s. s.port) (λ s. refl) c.args.sinks.now))
-    c.turn.ensures.cycle
-
 pub returns-clause-stands : goal.returns-clause-stands
 returns-clause-stands g c = λ setup netlist stands good.
     stands_next setup netlist c.args.cycle c.args.engine.now c.turn.new.engine c.args.stalls.now c.args.sources.now
@@ -29,12 +21,22 @@ returns-clause-stands g c = λ setup netlist stands good.
     c.turn.ensures.cycle
     c.tell_all.new.sources (map (λ s. sinking ((goal.Device-dyn g (s.device.vtable, s.device.value)).meaning s.device.value) s.port) c.tell_all.new.sinks)
     (told_more (λ s. sinking ((goal.Device-dyn g (s.device.vtable, s.device.value)).meaning s.device.value) s.port) c.args.cycle c.turn.new.self.sources.items c.turn.new.self.sinks.items c.turn.new.self.outputs.items c.args.sources.now c.tell_all.new.sources c.args.sinks.now c.tell_all.new.sinks
-    c.turn.ensures.as_many_sources c.turn.ensures.as_many_sinks c.tell_all.ensures.same_sources c.tell_all.ensures.same_sinks c.tell_all.ensures.heard c.tell_all.ensures.served)
+    c.turn.ensures.as_many_sources c.turn.ensures.as_many_sinks c.tell_all.ensures.same_sources c.tell_all.ensures.same_sinks c.tell_all.ensures.heard (c.tell_all.ensures.served
+    (may_serve setup netlist c.args.cycle c.args.engine.now c.turn.new.engine c.args.stalls.now c.args.sources.now
+    (map (λ s. sinking ((goal.Device-dyn g (s.device.vtable, s.device.value)).meaning s.device.value) s.port) c.args.sinks.now)
+    c.turn.new.self.sources.items c.turn.new.self.sinks.items c.turn.new.self.outputs.items stands good c.turn.ensures.sources
+    (c.turn.ensures.sinks ∙ ap (server_offers c.args.stalls.now c.args.cycle 0) (ports_of (λ s. sinking ((goal.Device-dyn g (s.device.vtable, s.device.value)).meaning s.device.value) s.port) (λ s. s.port) (λ s. refl) c.args.sinks.now))
+    c.turn.ensures.cycle)))
 
 pub returns-clause-events : goal.returns-clause-events
 returns-clause-events g c = λ setup netlist stands good.
     c.tell_all.ensures.events
     (may_hear setup netlist c.args.cycle c.args.engine.now c.turn.new.engine c.args.stalls.now c.args.sources.now
+    (map (λ s. sinking ((goal.Device-dyn g (s.device.vtable, s.device.value)).meaning s.device.value) s.port) c.args.sinks.now)
+    c.turn.new.self.sources.items c.turn.new.self.sinks.items c.turn.new.self.outputs.items stands good c.turn.ensures.sources
+    (c.turn.ensures.sinks ∙ ap (server_offers c.args.stalls.now c.args.cycle 0) (ports_of (λ s. sinking ((goal.Device-dyn g (s.device.vtable, s.device.value)).meaning s.device.value) s.port) (λ s. s.port) (λ s. refl) c.args.sinks.now))
+    c.turn.ensures.cycle)
+    (may_serve setup netlist c.args.cycle c.args.engine.now c.turn.new.engine c.args.stalls.now c.args.sources.now
     (map (λ s. sinking ((goal.Device-dyn g (s.device.vtable, s.device.value)).meaning s.device.value) s.port) c.args.sinks.now)
     c.turn.new.self.sources.items c.turn.new.self.sinks.items c.turn.new.self.outputs.items stands good c.turn.ensures.sources
     (c.turn.ensures.sinks ∙ ap (server_offers c.args.stalls.now c.args.cycle 0) (ports_of (λ s. sinking ((goal.Device-dyn g (s.device.vtable, s.device.value)).meaning s.device.value) s.port) (λ s. s.port) (λ s. refl) c.args.sinks.now))

@@ -1,0 +1,10 @@
+pub mod Refusing
+pub mod Pairing
+pub mod Earlier
+pub mod Ruling
+pub mod Never
+pub mod Fed
+pub mod Refused
+pub mod Agreeing
+pub mod Small
+pub mod Worked

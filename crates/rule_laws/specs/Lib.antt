@@ -1,0 +1,3 @@
+pub mod RuleRefusals
+pub mod DesignRefusals
+pub mod Examples

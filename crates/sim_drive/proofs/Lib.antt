@@ -1,0 +1,5 @@
+pub mod Ascending
+pub mod Found
+pub mod Sharing
+pub mod Scripted
+pub mod Prepares

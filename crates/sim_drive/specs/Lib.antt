@@ -1,0 +1,3 @@
+pub mod Preparing
+pub mod Setting
+pub mod Opening
