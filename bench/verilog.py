@@ -1,12 +1,13 @@
 #!/usr/bin/env python3
-"""Times `soc verilog` on chains of buffers, and counts what an edge and a buffer cost.
+"""Times `soc verilog` on chains of buffers, and counts what an edge, a buffer, a crossbar and an id shrinker cost.
 
     bench/verilog.py [RUNS]
 
 One design has a source and a sink of 64 ports each, 63 bound directly and one through 250 buffers. The other has 4 ports,
 all through 250 buffers, which is nearly the most edges that a design may have. Times are processor seconds of the
 program, the least of some runs. Registers and cells of one edge more, and of one buffer more, are differences between
-short chains.
+short chains. Those of a crossbar, of n inputs and n outputs, and of a shrinker of 64 ids are what their designs have more
+than as many edges and ports.
 """
 
 import os
@@ -45,6 +46,35 @@ def chain(ports, through, buffers, beat=8):
     return "\n".join(lines) + "\n"
 
 
+EMITS = "{ get = [1, 64], put_full = [1, 64] }"
+
+
+def sink(name, place):
+    return node(name, "sink", "beat = 8", f"addresses = [[[0x{place << 16:x}, 0xffff]]]", f"supports = {EMITS}")
+
+
+def crossbar(count, policy):
+    """A crossbar between as many sources, of four ids each, and sinks."""
+    lines = ["version = 1", 'name = "bar"', f'policy = "{policy}"']
+    for n in range(count):
+        lines += node(f"core{n}", "source", "ids = 4", f"emits = {EMITS}")
+    lines += node("bus", "xbar")
+    for n in range(count):
+        lines += sink(f"ram{n}", n + 1)
+    for n in range(count):
+        lines += bind("bus", f"core{n}")
+    for n in range(count):
+        lines += bind(f"ram{n}", "bus")
+    return "\n".join(lines) + "\n"
+
+
+def shrinker(ids):
+    """A shrinker from 64 ids to so many."""
+    lines = ["version = 1", 'name = "few"', *node("core", "source", "ids = 64", f"emits = {EMITS}")]
+    lines += [*node("few", "shrinker", f"args = [{ids}]"), *sink("ram", 1), *bind("few", "core"), *bind("ram", "few")]
+    return "\n".join(lines) + "\n"
+
+
 def run(folder, name, text, runs):
     """Processor seconds, the size of the saved text, and the line that was printed."""
     design, saved = Path(folder) / f"{name}.toml", Path(folder) / f"{name}.v"
@@ -78,6 +108,15 @@ def main():
             some = [counted(run(folder, "short", chain(1, 1, buffers, beat), 1)[2]) for buffers in (0, 1, 2)]
             for word in ("registers", "cells"):
                 print(f"beat {beat}: {word} with 0, 1, 2 buffers: {', '.join(str(it[word]) for it in some)}")
+        # two edges with a port at each end: two from the difference of chains, the ports from the chain of one edge
+        one, two = (counted(run(folder, "plain", chain(1, 1, buffers), 1)[2]) for buffers in (0, 1))
+        bare = {word: two[word] - (2 if word == "cells" else 0) for word in one}
+        more = lambda text, pairs: {word: has - pairs * bare[word] for word, has in counted(run(folder, "part", text, 1)[2]).items()}
+        for policy in ("lowest", "round"):
+            for count in (1, 2, 4, 8, 16):
+                print(f"crossbar {count} by {count}, {policy}: {more(crossbar(count, policy), count)}")
+        for ids in (1, 4, 16, 64):
+            print(f"shrinker of 64 ids to {ids}: {more(shrinker(ids), 1)}")
 
 
 if __name__ == "__main__":
