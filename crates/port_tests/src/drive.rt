@@ -90,13 +90,17 @@ fn take(driver: &mut SourceDriver, cycle: u32) {
 
 // A beat with an id comes back, if one is to come.
 fn come_back(driver: &mut SourceDriver, id: u32) -> bool {
-    driver.try_return(&DBeat {
-        op: Ack::Ack,
-        size: 0,
-        source: id,
-        denied: false,
-        payload: 0,
-    })
+    let busy = driver.is_busy(id);
+    if busy {
+        driver.returned(&DBeat {
+            op: Ack::Ack,
+            size: 0,
+            source: id,
+            denied: false,
+            payload: 0,
+        });
+    }
+    busy
 }
 
 // Writes what is offered.
