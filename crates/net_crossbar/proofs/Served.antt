@@ -18,7 +18,7 @@ use Rattle.net_crossbar.specs.declared.channel.Channel.{Channel}
 use Rattle.net_crossbar.specs.Crossed.{AreGates}
 use Rattle.net_crossbar.specs.Places.{AllAt}
 use Rattle.net_crossbar.specs.Rests.{AreRests, beats_behind_head}
-use Rattle.net_crossbar.specs.Serving.{AreWanted, GrantEach, IsServedBy, IsWanted, TellsTaken}
+use Rattle.net_crossbar.specs.Serving.{AreWanted, GrantEach, IsServedBy, IsSingleGate, IsWanted, TellsTaken}
 use Rattle.net_crossbar.proofs.Lists.{all_lifted, read_here}
 
 pub wanted_adds : (old new : Built) (count : ℕ) (ws : List Wire) → Adds old new → IsWanted old count ws → IsWanted new count ws
@@ -40,6 +40,15 @@ pub served_here : (start old new : Built) (round : Bool) (rows : List (List Wire
 served_here start old new round rows rests wants readies place row x s l e f g h =
     subst (λ (ws : List Wire). IsServedBy start new round rows rests ws (get_or readies place no_wire) s) (read_here wants place row x [] l e f)
     (record { gate = λ rest most t. h.gate rest most (rests_back start old rest most row rows rests g.later t) })
+
+-- a gate of one head is one later too
+pub single_later : (old new : Built) (rows : List (List Wire)) (wants : List Wire) (ready : Wire) (s : Serving) → Adds old new → IsSingleGate old rows wants ready s → IsSingleGate new rows wants ready s
+single_later old new rows wants ready s g h = record { gate = λ round rest most. machine_later _ _ _ _ _ _ old new g.later (h.gate round rest most) }
+
+-- the gate of a place is one by the row that stands there
+pub single_here : (b : Built) (rows wants : List (List Wire)) (readies : List Wire) (place : ℕ) (row x : List Wire) (s : Serving) → place < length wants → row ≡ x → x ≡ get_or wants place x
+    → IsSingleGate b rows row (get_or readies place no_wire) s → IsSingleGate b rows (get_or wants place []) (get_or readies place no_wire) s
+single_here b rows wants readies place row x s l e f h = subst (λ (ws : List Wire). IsSingleGate b rows ws (get_or readies place no_wire) s) (read_here wants place row x [] l e f) h
 
 pub serving_adds : (old new : Built) (count : ℕ) (widths : List ℕ) (s : Serving) → Adds old new → AreServing old count widths s → AreServing new count widths s
 serving_adds old new count widths s g h = record {

@@ -25,6 +25,11 @@ pub record IsServedBy (old new : Built) (round : Bool) (rows : List (List Wire))
   pub gate : (rest : List ℕ → ℕ) (most : ℕ) → RestsAre old rest most wants rows rests
       → IsGate new round rest most wants ready rows s
 
+-- the wires are a gate of one head, whoever goes first and however many beats follow
+pub record IsSingleGate (b : Built) (rows : List (List Wire)) (wants : List Wire) (ready : Wire) (s : Serving)
+    : Type 0 where
+  pub gate : (round : Bool) (rest : List ℕ → ℕ) (most : ℕ) → IsGate b round rest most wants ready rows s
+
 -- gates that each have a bit for each of so many heads
 abbrev pub GrantEach : Built → ℕ → List Serving → Type 0
 GrantEach b count servings = AllAt (λ k (s : Serving). IsWanted b count s.grants) servings
