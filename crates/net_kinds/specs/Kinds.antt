@@ -14,6 +14,8 @@ use Rattle.net_queue.specs.Leaves.{DoneFitsAt, LeafDone, LeafView, ins_at, outs_
 use Rattle.net_queue.specs.Machines.{Machine}
 use Rattle.net_buffer.specs.Buffers.{buffer_machine}
 use Rattle.net_shrink.specs.Shrinkers.{FitsShrinker, shrinker_machine}
+use Rattle.net_widget.specs.Widgets.{WidgetFits}
+use Rattle.net_width.specs.PlanWidths.{plan_widget}
 use Rattle.net_crossbar.specs.PlanCrossbars.{FitsPlanCrossbar, plan_crossbar}
 use Rattle.net_parts.specs.Stands.{AreMachines}
 use Rattle.net_parts.specs.Wired.{Occurs}
@@ -29,7 +31,7 @@ adapter_at plan leaf = adapter (leaf_state (network_at_start plan) leaf) next_id
 -- the machine of a leaf that is of a template
 abbrev pub machine_of : Template → Plan → ℕ → Machine LeafState LeafView LeafDone
 machine_of Buffer plan leaf = buffer_machine
-machine_of Width plan leaf = adapter_at plan leaf
+machine_of Width plan leaf = plan_widget plan leaf
 machine_of Fragmenter plan leaf = adapter_at plan leaf
 machine_of Shrinker plan leaf = shrinker_machine plan leaf
 machine_of Xbar plan leaf = plan_crossbar plan (ins_at plan leaf) (outs_at plan leaf)
@@ -38,7 +40,7 @@ machine_of Xbar plan leaf = plan_crossbar plan (ins_at plan leaf) (outs_at plan 
 -- fits the wires of its edges, and what else they rest on
 abbrev pub fits_of : Template → Plan → ℕ → LeafState → LeafView → Type 0
 fits_of Buffer plan leaf state sees = DoneFitsAt plan leaf buffer_machine state sees
-fits_of Width plan leaf state sees = DoneFitsAt plan leaf (adapter_at plan leaf) state sees
+fits_of Width plan leaf state sees = WidgetFits plan leaf (plan_widget plan leaf) state sees
 fits_of Fragmenter plan leaf state sees = DoneFitsAt plan leaf (adapter_at plan leaf) state sees
 fits_of Shrinker plan leaf state sees = FitsShrinker plan leaf state sees
 fits_of Xbar plan leaf state sees = FitsPlanCrossbar plan (ins_at plan leaf) (outs_at plan leaf) state sees

@@ -3,6 +3,7 @@ ghost use Rattle.net_kinds.specs.Kinds.{MachinesLaw};
 use net_bar_cycle::crossbar_at_law;
 use net_cycle::adapter_at_law;
 use net_parts::puts_fit_law;
+use net_width::plan_widget_law;
 
 /// In the network of a sound plan each leaf is the machine of its template: it starts as that does, and does
 /// in each locally valid state what that does. Where a state and what the leaf sees occur in the network, all
@@ -13,4 +14,5 @@ pub fn machines_law()
     adapter_at_law();
     crossbar_at_law();
     puts_fit_law();
+    plan_widget_law();
 }

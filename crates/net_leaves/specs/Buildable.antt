@@ -8,7 +8,7 @@ use Rattle.tl_edge.specs.declared.plan.Plan.{Plan}
 -- there is hardware for a template
 abbrev pub is_buildable : Template → Bool
 is_buildable Buffer = true
-is_buildable Width = false
+is_buildable Width = true
 is_buildable Fragmenter = false
 is_buildable Shrinker = true
 is_buildable Xbar = true
@@ -17,8 +17,7 @@ is_buildable Xbar = true
 abbrev pub IsBuildable : Plan → Type 0
 IsBuildable plan = All (λ (leaf : Leaf). IsTrue (is_buildable leaf.template)) plan.leaves
 
--- every plan without width adapters and fragmenters, also one without a leaf, can be built
+-- every plan without fragmenters, also one without a leaf, can be built
 abbrev pub HardwareLaw : Type 0
 HardwareLaw =
-    (plan : Plan) → All (λ (leaf : Leaf). (leaf.template ≢ Width) × (leaf.template ≢ Fragmenter)) plan.leaves
-    → IsBuildable plan
+    (plan : Plan) → All (λ (leaf : Leaf). leaf.template ≢ Fragmenter) plan.leaves → IsBuildable plan

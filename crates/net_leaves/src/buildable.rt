@@ -9,6 +9,6 @@ pub fn is_buildable(template: Template) -> bool
 {
     matches!(
         template,
-        Template::Buffer | Template::Shrinker | Template::Xbar
+        Template::Buffer | Template::Width | Template::Shrinker | Template::Xbar
     )
 }

@@ -1,6 +1,6 @@
 ghost use Rattle.net_leaves.specs.Buildable.{HardwareLaw};
 
-/// Every plan without width adapters and fragmenters can be built.
+/// Every plan without fragmenters can be built.
 pub fn hardware_law()
     ensures { HardwareLaw }
 {}

@@ -7,14 +7,14 @@ use Rattle.tl_edge.specs.declared.plan.Leaf.{Leaf}
 use Rattle.net_leaves.specs.Buildable.{is_buildable}
 use Rattle.net_leaves.proofs.laws.hardware_law.Goals as goal
 
-built : (template : Template) → template ≢ Width → template ≢ Fragmenter → IsTrue (is_buildable template)
-built Buffer w f = refl
-built Width w f = absurd (w refl)
-built Fragmenter w f = absurd (f refl)
-built Shrinker w f = refl
-built Xbar w f = refl
+built : (template : Template) → template ≢ Fragmenter → IsTrue (is_buildable template)
+built Buffer f = refl
+built Width f = refl
+built Fragmenter f = absurd (f refl)
+built Shrinker f = refl
+built Xbar f = refl
 
 pub returns : goal.returns
 returns c = λ plan others.
-    All-weaker (λ (leaf : Leaf). (leaf.template ≢ Width) × (leaf.template ≢ Fragmenter)) (λ (leaf : Leaf). IsTrue (is_buildable leaf.template))
-    (λ leaf h. built leaf.template h.0 h.1) plan.leaves others
+    All-weaker (λ (leaf : Leaf). leaf.template ≢ Fragmenter) (λ (leaf : Leaf). IsTrue (is_buildable leaf.template))
+    (λ leaf h. built leaf.template h) plan.leaves others

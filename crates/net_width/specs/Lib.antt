@@ -1,0 +1,3 @@
+pub mod Between
+pub mod PlanWidths
+pub mod Widened
