@@ -90,17 +90,13 @@ fn take(driver: &mut SourceDriver, cycle: u32) {
 
 // A beat with an id comes back, if one is to come.
 fn come_back(driver: &mut SourceDriver, id: u32) -> bool {
-    let busy = driver.is_busy(id);
-    if busy {
-        driver.returned(&DBeat {
-            op: Ack::Ack,
-            size: 0,
-            source: id,
-            denied: false,
-            payload: 0,
-        });
-    }
-    busy
+    driver.try_return(&DBeat {
+        op: Ack::Ack,
+        size: 0,
+        source: id,
+        denied: false,
+        payload: 0,
+    })
 }
 
 // Writes what is offered.

@@ -8,6 +8,10 @@
 //! size, an id, an address, flags and bytes, or a cycle with `-`, `a`, `d` or `ad`, the channels on which the
 //! port is stalled. The device is one of the test's own, in a box, at 64 addresses from 0x100 on.
 //!
+//! A line that begins with `try` tries beats at a sink port that is opened in the same way; another part is
+//! `pass`, with which the offered beat passes, or a beat: an operation, a param, a size, an id, an address, a
+//! mask and data. Each is followed by whether it leaves, how many beats are there, and what is offered.
+//!
 //! For any other line the program prepares a memory in a role at sixteen addresses, writes eight bytes, asks
 //! one request, and prints the line with the answer and the eight bytes afterwards. The line has the role, an
 //! operation, a param, a size (a base-2 logarithm), an address, flags, the bytes that are written first and
@@ -19,6 +23,7 @@ mod counting;
 mod drive;
 mod made;
 mod served;
+mod tried;
 mod words;
 
 use crate::ask::{ask, due};
@@ -26,6 +31,7 @@ use crate::counting::Counting;
 use crate::drive::{driver_opened, pass};
 use crate::made::{Fields, number_of, request_of, room_of};
 use crate::served::{do_parts, opened};
+use crate::tried::{tried_open, try_parts};
 use crate::words::{Case, case_of, cycle_of, opening_of};
 use dip_lists::Memory;
 use sim_ports::{Cells, Device, SourceDriver};
@@ -111,6 +117,14 @@ fn serve_line(alloc: Global, line: &str, text: &mut String) -> Result<(), Memory
     Ok(write!(text, "\n  {} dropped", drops.get())?)
 }
 
+// Tries beats at a sink port as a line says, whose first part says how it is opened.
+fn try_line(alloc: Global, line: &str, text: &mut String) -> Result<(), Memory> {
+    let (first, parts) = line.split_once(';').unwrap_or((line, ""));
+    let device: Box<dyn Device> = Box::new(alloc, Cells::new(alloc))?;
+    let mut tried = tried_open(alloc, opening_of(first.trim()), device)?;
+    try_parts(&mut tried, parts, text)
+}
+
 // Answers a line: a cycle of the driver, a sink port, or a case.
 fn answer_line(
     alloc: Global,
@@ -122,6 +136,9 @@ fn answer_line(
     if word == "cycle" {
         let cycle = cycle_of(rest);
         return pass(driver, cycle.cycle, cycle.way, cycle.back, text);
+    }
+    if word == "try" {
+        return try_line(alloc, rest, text);
     }
     if word == "sink" {
         return serve_line(alloc, rest, text);

@@ -158,8 +158,8 @@ pub enum PortStep<'a> {
     Cycle(Cycle<'a>),
 }
 
-// The fields of a request: operation, param, size, id, address, flags and bytes.
-fn fields_of(line: &str) -> Fields {
+/// The fields of a request: operation, param, size, id, address, flags and bytes.
+pub fn fields_of(line: &str) -> Fields {
     let (op, rest) = line.split_once(' ').unwrap_or((line, ""));
     let (param, rest) = rest.split_once(' ').unwrap_or((rest, ""));
     let (size, rest) = rest.split_once(' ').unwrap_or((rest, ""));
