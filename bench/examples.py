@@ -2,7 +2,7 @@
 """Says where examples/ and the copies that are tried in the gate differ.
 
 Run it at the top of the repository. The program crates/soc_tests runs on the designs and netlist texts in its data folder, and
-its stdout holds the maps and lines that it must print: the same files and answers as in examples/, and of those in
+its stdout holds the maps, lines and traces that it must print: the same files and answers as in examples/, and of those in
 examples/refused/ the refusal that stands in their first line, by `map` or by `verilog` as it says. Each difference is a line, and the status is 1 where there is one.
 """
 
@@ -16,8 +16,14 @@ CASES = Path("crates/soc_tests")
 
 def examples():
     """Each example with its run and with what is printed, exit status and all."""
+    stimuli = sorted(EXAMPLES.glob("*.stimulus.toml"))
     for design in sorted([*EXAMPLES.glob("*.toml"), *(EXAMPLES / "guide").glob("*.toml")]):
+        if design in stimuli:
+            continue
         yield design, f"map {design.name}", f"{design.with_suffix('.map').read_text()}status 0\n"
+    for stimulus in stimuli:
+        design, trace = stimulus.name.replace(".stimulus", ""), stimulus.with_suffix("").with_suffix(".trace")
+        yield stimulus, f"sim {design} {stimulus.name} traced.v", f"{trace.read_text()}status 0\n"
     for text in sorted(EXAMPLES.glob("*.v")):
         yield text, f"read {text.name}", f"{text.with_suffix('.read').read_text()}status 0\n"
     for refused in sorted((EXAMPLES / "refused").glob("*.toml")):

@@ -3,3 +3,8 @@ pub mod Found
 pub mod Sharing
 pub mod Scripted
 pub mod Prepares
+pub mod Drivers
+pub mod Summing
+pub mod Freshly
+pub mod Wiring
+pub mod Going

@@ -1,16 +1,17 @@
 -- The requests of a stimulus shared out among source ports.
-use Rattle.std.proofs.Common.{◌≡◌, ℕ, zero, suc, ◌+◌, ◌<◌, Bool, true, false, cond, eqb, List, [], ◌∷◌, ◌++◌, get_or, length, map, take, Some, slice_get, refl, ap, subst, sym, ◌∙◌, arith}
+use Rattle.std.proofs.Common.{◌≡◌, ℕ, zero, suc, ◌+◌, ◌<◌, Bool, true, false, cond, eqb, inl, inr, List, [], ◌∷◌, ◌++◌, get_or, length, map, take, Some, slice_get, refl, ap, subst, sym, ◌∙◌, arith}
 use Rattle.std.specs.Prelude.{All}
 use Rattle.std.proofs.Math.ListN.{set}
-use Rattle.std.proofs.lemmas.Bool.{eqb-true, eqb-false}
-use Rattle.std.proofs.lemmas.List.{append-nil, length-set, map_push}
+use Rattle.std.proofs.lemmas.Bool.{cases_order, eqb-true, eqb-false}
+use Rattle.std.proofs.lemmas.List.{append-nil, length-append, length-set, map_push}
 use Rattle.std.proofs.lemmas.List.Elements.{filter-append}
-use Rattle.std.proofs.lemmas.Option.{same_Some, slice_get_read}
+use Rattle.std.proofs.lemmas.Option.{same_Some, slice_get_read, slice_get_within}
 use Rattle.tl_edge.specs.declared.message.Request.{Request}
 use Rattle.sim_ports.specs.declared.stimulus.StimRequest.{StimRequest}
 use Rattle.sim_events.specs.Setups.{stated_at}
 use Rattle.sim_drive.specs.declared.scripts.Asked.{Asked}
 use Rattle.sim_drive.specs.Opening.{AreAskedBy}
+use Rattle.sim_drive.proofs.Freshly.{at_end, left_of}
 use Rattle.sim_drive.proofs.Prepares.{IsNext}
 use Rattle.sim_drive.proofs.Sharing.{front_more}
 
@@ -46,6 +47,24 @@ one_more stated one old new before asks starts = record {
 pub asked_at : (requests : List StimRequest) (count : ℕ) (lists : List Asked) (port : ℕ) (asked : Asked) → AreAskedBy requests count lists
     → slice_get lists port ≡ Some asked → IsAsked (stated_at port requests) asked
 asked_at requests count lists port asked all is = let both = all.each port asked is in record { requests = both.0; starts = both.1 }
+
+-- one port more, which is asked nothing
+pub nothing_more : (count : ℕ) (lists news : List Asked) (one : Asked) → AreAskedBy [] count lists → one.requests ≡ [] → one.starts ≡ [] → news ≡ lists ++ one ∷ []
+    → AreAskedBy [] (count + 1) news
+nothing_more count lists news one before asks starts grown = record {
+  long = omega (arith, ap length grown, length-append lists (one ∷ []), before.long);
+  each = λ port asked is.
+      let there : slice_get (lists ++ one ∷ []) port ≡ Some asked = subst (λ (xs : List Asked). slice_get xs port ≡ Some asked) grown is in
+      elim (cases_order port count) [
+        | inl q ↦
+            let same : one ≡ asked = same_Some one asked (sym (at_end lists one port (q ∙ sym before.long)) ∙ there) in
+            (ap (λ (x : Asked). x.requests) (sym same) ∙ asks, ap (λ (x : Asked). x.starts) (sym same) ∙ starts)
+        | inr o ↦ elim o [
+          | inl b ↦ before.each port asked (sym (left_of lists (one ∷ []) port (omega (arith, b, before.long))) ∙ there)
+          | inr b ↦ absurd (let l = slice_get_within (lists ++ one ∷ []) port asked there in omega (arith, l, b, before.long, length-append lists (one ∷ [])))
+        ]
+      ];
+}
 
 -- one request more, at its port
 pub asked_more : (requests : List StimRequest) (one : StimRequest) (count : ℕ) (lists : List Asked) (old new : Asked) → AreAskedBy requests count lists

@@ -1,11 +1,16 @@
-//! What a run is made of, by a plan and a stimulus: what source ports are asked, and where devices are
-//! prepared.
+//! A run whole: it is opened with a plan, a netlist, a stimulus and devices, goes from cycle to cycle, and
+//! comes to its totals.
 #![tactic(auto)]
 
+mod fault;
 mod laws;
 mod preparing;
+mod room;
+mod run;
 mod scripts;
+mod sinks;
+mod totals;
 
-pub use laws::{rising_law, setup_worked_law};
-pub use preparing::prepared_for;
-pub use scripts::{Asked, asked_by_port};
+pub use fault::RunFault;
+pub use laws::{rising_law, run_worked_law};
+pub use run::Run;

@@ -1,11 +1,11 @@
 -- The text of a trace, computed.
 use Rattle.std.proofs.Common.{refl}
 use Rattle.std.specs.Fmt.{digits}
-use Rattle.soc_report.specs.TraceLines.{end_line, line_head, request_text, response_text}
+use Rattle.soc_report.specs.TraceLines.{end_text, line_head, request_text, response_text}
 use Rattle.sim_run.specs.Texts.{TraceTextsExample}
 
 pub texts : TraceTextsExample
-unfolding line_head request_text response_text end_line digits
+unfolding line_head request_text response_text end_text digits
 texts = record {
   put_enters = refl;
   get_enters = refl;

@@ -31,14 +31,19 @@ pub record IsPlanned (rules : List StatedRule) (design : Design) (accepted : Acc
   pub sound : IsSound accepted.plan
   pub stands : StandsTo design accepted.edges accepted.solution accepted.plan
 
--- A netlist of a design: well formed, with no net that depends on itself through cells, set back by a cycle with
--- `reset` 1, and one that implements the design's plan: it has the plan's ports, and in each run from the start its
--- outputs show what the plan's network does, as long as the ports offer what their edges carry and each cycle starts in
--- a locally valid state.
-pub record IsNetlistOf (rules : List StatedRule) (design : Design) (netlist : Netlist) : Type 0 where
-  pub accepted : Accepted
+-- A netlist of a design with these edges, this solution and this plan: well formed, with no net that depends on itself
+-- through cells, set back by a cycle with `reset` 1, and one that implements the plan: it has the plan's ports, and in
+-- each run from the start its outputs show what the plan's network does, as long as the ports offer what their edges
+-- carry and each cycle starts in a locally valid state.
+pub record IsBuiltWith (rules : List StatedRule) (design : Design) (accepted : Accepted) (netlist : Netlist)
+    : Type 0 where
   pub planned : IsPlanned rules design accepted
   pub formed : IsWellFormed netlist
   pub no_loop : HasNoLoop netlist
   pub resets : Resets netlist
   pub implements : Implements accepted.plan netlist
+
+-- a netlist of a design
+pub record IsNetlistOf (rules : List StatedRule) (design : Design) (netlist : Netlist) : Type 0 where
+  pub accepted : Accepted
+  pub built : IsBuiltWith rules design accepted netlist

@@ -8,4 +8,4 @@ mod netlist;
 
 pub use kinds::kinds_are_built;
 pub use laws::buildable_law;
-pub use netlist::build_design;
+pub use netlist::{BuiltDesign, build_accepted, build_design};

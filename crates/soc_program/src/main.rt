@@ -4,7 +4,7 @@
 use dip_io::{RealFiles, RealOut};
 use dip_lists::Memory;
 use soc_report::Status;
-use soc_top::soc_by_standard_rules;
+use soc_top::{MOST_DEVICES, boxed_cells, soc_by_standard_rules};
 use std::env;
 use std::io::ErrorKind;
 use std::process::ExitCode;
@@ -32,9 +32,10 @@ fn run(rt: HostRuntime) -> Result<Status, Memory> {
         return Err(Memory);
     };
     let alloc = rt.alloc();
+    let devices = boxed_cells!(alloc, MOST_DEVICES);
     let mut files = RealFiles::new(copy);
     let mut out = RealOut::new(rt);
-    soc_by_standard_rules(alloc, words.as_slice(), &mut files, &mut out)
+    soc_by_standard_rules(alloc, words.as_slice(), &mut files, &mut out, devices)
 }
 
 fn main(rt: HostRuntime) -> ExitCode {

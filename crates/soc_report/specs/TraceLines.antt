@@ -1,5 +1,5 @@
 -- The lines of a trace, and its last line.
-use Rattle.std.specs.Prelude.{ℕ, List, ◌++◌, codes, decimal}
+use Rattle.std.specs.Prelude.{ℕ, List, [], ◌∷◌, ◌++◌, codes, decimal}
 use Rattle.std.specs.Int.{from_bool}
 use Rattle.dip_text.specs.Numbers.{hexadecimal}
 use Rattle.tl_params.specs.Codes.{code_of_ack, code_of_op}
@@ -45,7 +45,16 @@ line_of_what cycle port (Reply beat) = line_head cycle (codes "reply") port ++ r
 abbrev pub trace_line : Event → List ℕ
 trace_line event = line_of_what event.cycle event.port event.what
 
--- the last line of a trace: how many cycles there were, how many requests began, and how many are answered
-unfoldable pub end_line : Totals → List ℕ
-end_line totals =
-    codes "end" ++ spaced totals.cycles ++ spaced totals.begun ++ spaced totals.returned ++ codes "\n"
+-- the lines of some events
+abbrev pub trace_lines : List Event → List ℕ
+trace_lines [] = []
+trace_lines (event ∷ events) = trace_line event ++ trace_lines events
+
+-- the last line of a trace of so many cycles, where so many requests have begun, and so many are answered
+unfoldable pub end_text : ℕ → ℕ → ℕ → List ℕ
+end_text cycles begun returned =
+    codes "end" ++ spaced cycles ++ spaced begun ++ spaced returned ++ codes "\n"
+
+-- that of some totals
+abbrev pub end_line : Totals → List ℕ
+end_line totals = end_text totals.cycles totals.begun totals.returned

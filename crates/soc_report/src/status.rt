@@ -1,5 +1,5 @@
-ghost use Rattle.std.specs.Prelude.{◌≡◌, ◌≤◌, take};
-ghost use Rattle.soc_report.specs.Lines.{line_of, code_of, refused_line, bad_text_line};
+ghost use Rattle.std.specs.Prelude.{◌≡◌, ◌≤◌, length, take};
+ghost use Rattle.soc_report.specs.Lines.{line_of, code_of, numbers_line, bad_text_line};
 
 use crate::line::{add, add_number};
 
@@ -16,8 +16,12 @@ pub enum Status {
     ReadFailed,
     /// A file or the output didn't take all of a text.
     WriteFailed,
+    /// A rule of the stimulus fails at this entry.
+    BadStimulus { rule: u16, entry: u64 },
     /// Want of memory; nothing was printed.
     Memory,
+    /// A run needs more devices than it was given.
+    NoDevice { needed: u64, given: u64 },
     /// A text spells no netlist; it is refused at the byte with this number, from 0.
     BadText { place: u64 },
 }
@@ -33,21 +37,24 @@ impl Status {
             Status::Usage => 2,
             Status::ReadFailed => 3,
             Status::WriteFailed => 4,
+            Status::BadStimulus { .. } => 5,
             Status::Memory => 6,
+            Status::NoDevice { .. } => 7,
             Status::BadText { .. } => 8,
         }
     }
 }
 
-// Writes the line of a check that fails to the front of `into`, and answers where it ends.
-fn refused_text(check: u16, subject: u64, into: &mut [u8; 256]) -> usize
+// Writes a word and two numbers to the front of `into`, and answers where the line ends.
+fn numbers_text(word: &[u8], first: u64, second: u64, into: &mut [u8; 256]) -> usize
+    requires { length word.now ≤ 200 }
     ensures within { result ≤ 256 }
-    ensures text { take result into.new ≡ refused_line check subject }
+    ensures text { take result into.new ≡ numbers_line word.now first second }
 {
-    let end = add(into, 0, b"refused ");
-    let end = add_number(into, end, check as u64);
+    let end = add(into, 0, word);
+    let end = add_number(into, end, first);
     let end = add(into, end, b" ");
-    let end = add_number(into, end, subject);
+    let end = add_number(into, end, second);
     add(into, end, b"\n")
 }
 
@@ -68,9 +75,15 @@ pub fn fault_text(status: &Status, into: &mut [u8; 256]) -> usize
     ensures text { take result into.new ≡ line_of status.now }
 {
     match status {
-        Status::Refused { check, subject } => refused_text(*check, *subject, into),
+        Status::Refused { check, subject } => {
+            numbers_text(b"refused ", *check as u64, *subject, into)
+        }
+        Status::BadStimulus { rule, entry } => {
+            numbers_text(b"bad stimulus ", *rule as u64, *entry, into)
+        }
+        Status::NoDevice { needed, given } => numbers_text(b"no device ", *needed, *given, into),
         Status::BadText { place } => bad_text_text(*place, into),
-        Status::Usage => add(into, 0, b"usage: soc map|verilog|read\n"),
+        Status::Usage => add(into, 0, b"usage: soc map|verilog|sim|read\n"),
         Status::ReadFailed => add(into, 0, b"read failed\n"),
         Status::Done | Status::WriteFailed | Status::Memory => 0,
     }

@@ -140,7 +140,7 @@ pub fn trace_line(event: &Event, into: &mut [u8; 160]) -> usize
 
 /// Writes the last line of a trace to the front of `into`, and answers how many bytes it has: how many cycles
 /// have run, how many requests have begun, and how many have returned. It takes no memory.
-#[tactic(auto, unfolding(crate::specs::TraceLines::end_line))]
+#[tactic(auto, unfolding(crate::specs::TraceLines::end_text))]
 pub fn end_line(totals: &Totals, into: &mut [u8; 128]) -> usize
     ensures within { result ≤ 128 }
     ensures text { take result into.new ≡ spec.end_line totals.now }

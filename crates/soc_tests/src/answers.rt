@@ -1,10 +1,10 @@
 ghost use Rattle.std.specs.Prelude.{◌<◌};
 
-use dip_io::{MemFiles, MemOut, RealFiles, RealOut};
+use dip_io::{Files, MemFiles, MemOut, Out, RealFiles, RealOut};
 use dip_lists::{Bytes, Items, Memory};
 use dip_rule::Rules;
 use soc_report::Status;
-use soc_top::{soc, soc_by_standard_rules};
+use soc_top::{MOST_DEVICES, boxed_cells, soc, soc_by_standard_rules};
 use std::alloc::Global;
 use std::{io, str};
 
@@ -71,6 +71,36 @@ fn most(failing: &Failing) -> usize
     if failing.put == 0 { 300 } else { 1 }
 }
 
+// How a run of these words ends where so many memories are handed in.
+fn ended_with<F: Files, O: Out>(
+    alloc: Global,
+    words: &[String],
+    files: &mut F,
+    out: &mut O,
+    count: usize,
+) -> Result<Status, Memory> {
+    let devices = boxed_cells!(alloc, count);
+    soc_by_standard_rules(alloc, words, files, out, devices)
+}
+
+/// The answer to words on files in memory, where so many memories are handed in.
+pub fn answer_with(
+    alloc: Global,
+    line: &str,
+    files: &mut MemFiles,
+    failing: &Failing,
+    count: usize,
+) -> Result<Answer, Memory> {
+    let words = words_of(alloc, line)?;
+    let mut out = MemOut::new(alloc, most(failing));
+    out.fail_at(failing.put)?;
+    let status = ended_with(alloc, words.as_slice(), files, &mut out, count)?;
+    Ok(Answer {
+        code: status.code(),
+        printed: Items::from_vec(Vec::from_slice(alloc, out.bytes())?),
+    })
+}
+
 /// The answer to words on files in memory.
 pub fn answer_on(
     alloc: Global,
@@ -78,14 +108,7 @@ pub fn answer_on(
     files: &mut MemFiles,
     failing: &Failing,
 ) -> Result<Answer, Memory> {
-    let words = words_of(alloc, line)?;
-    let mut out = MemOut::new(alloc, most(failing));
-    out.fail_at(failing.put)?;
-    let status = soc_by_standard_rules(alloc, words.as_slice(), files, &mut out)?;
-    Ok(Answer {
-        code: status.code(),
-        printed: Items::from_vec(Vec::from_slice(alloc, out.bytes())?),
-    })
+    answer_with(alloc, line, files, failing, MOST_DEVICES)
 }
 
 /// The answer to a command on a file of these bytes.
@@ -104,7 +127,15 @@ pub fn map_by(alloc: Global, file: &[u8], rules: &Rules) -> Result<Answer, Memor
     let words = words_of(alloc, Command::Map.words())?;
     let mut files = files_of(alloc, file, &NOTHING)?;
     let mut out = MemOut::new(alloc, 300);
-    let status = soc(alloc, words.as_slice(), &mut files, &mut out, rules);
+    let devices = boxed_cells!(alloc, 0);
+    let status = soc(
+        alloc,
+        words.as_slice(),
+        &mut files,
+        &mut out,
+        rules,
+        devices,
+    );
     Ok(Answer {
         code: status.code(),
         printed: Items::from_vec(Vec::from_slice(alloc, out.bytes())?),
@@ -142,6 +173,12 @@ pub fn run_words(rt: &HostRuntime, line: &str) -> io::Result<()> {
     };
     let mut files = RealFiles::new(rt.clone()?);
     let mut out = RealOut::new(rt.clone()?);
-    let ended = soc_by_standard_rules(rt.alloc(), words.as_slice(), &mut files, &mut out);
+    let ended = ended_with(
+        rt.alloc(),
+        words.as_slice(),
+        &mut files,
+        &mut out,
+        MOST_DEVICES,
+    );
     println!(rt; "status {}", ended.unwrap_or(Status::Memory).code())
 }

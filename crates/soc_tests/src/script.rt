@@ -5,19 +5,22 @@ use crate::answers::{
 use crate::building::{show_built, show_overwritten, show_unsaid, show_unsaved};
 use crate::lies::{map_by_given, map_by_narrow};
 use crate::plan::show_plan;
+use crate::simulating::{show_cut_off, show_devices, show_traced, show_unheard, show_unkept};
 use crate::tree::show_tree;
 use dip_lists::{Items, Memory};
 use std::alloc::Global;
 use std::fmt::Write;
 use std::io;
 
-/// The file that is being made, the command that is run on it, and the file that is kept for changes.
+/// The file that is being made, the command that is run on it, the file that is kept for changes, and the
+/// design where the file is a stimulus.
 #[derive(Drop)]
 pub struct Script {
     alloc: Global,
     on_file: Command,
     file: String,
     kept: String,
+    design: String,
 }
 
 // Adds a part, with a number in the place of `#`, the next in the place of `@`, and its hexadecimal digits in
@@ -127,6 +130,7 @@ impl Script {
             on_file: Command::Map,
             file: String::new(alloc),
             kept: String::new(alloc),
+            design: String::new(alloc),
         }
     }
 
@@ -134,6 +138,23 @@ impl Script {
     fn begin(&mut self, command: Command) {
         self.on_file = command;
         self.file.clear();
+        self.design.clear();
+    }
+
+    // Begins a stimulus file for the design that was made.
+    fn begin_stimulus(&mut self) -> Result<(), Memory> {
+        self.design = String::from_str(self.alloc, self.file.as_str())?;
+        self.file.clear();
+        Ok(())
+    }
+
+    // What is run on a changed file.
+    fn on_change(&self) -> &'static str {
+        if self.design.is_empty() {
+            "answer"
+        } else {
+            "traced"
+        }
     }
 
     // Adds a line to the file.
@@ -215,11 +236,12 @@ impl Script {
         match command {
             "new" => self.begin(Command::Map),
             "text" => self.begin(Command::Read),
+            "stimulus" => self.begin_stimulus()?,
             "keep" => self.keep()?,
             "pad" => self.pad(argument)?,
             "change" => {
                 self.change(argument)?;
-                return Ok(("answer", ""));
+                return Ok((self.on_change(), ""));
             }
             _ => return Ok((command, argument)),
         }
@@ -243,6 +265,13 @@ impl Script {
             "rebuilt" => show_overwritten(rt, self.file.as_bytes()),
             "unsaved" => show_unsaved(rt, self.file.as_bytes()),
             "unsaid" => show_unsaid(rt, self.file.as_bytes()),
+            "traced" => show_traced(rt, self.design.as_bytes(), self.file.as_bytes()),
+            "devices" => {
+                show_devices(rt, self.design.as_bytes(), self.file.as_bytes(), argument)
+            }
+            "unheard" => show_unheard(rt, self.design.as_bytes(), self.file.as_bytes()),
+            "unkept" => show_unkept(rt, self.design.as_bytes(), self.file.as_bytes()),
+            "cut" => show_cut_off(rt, self.design.as_bytes(), self.file.as_bytes()),
             "tree" => show_tree(rt, self.file.as_bytes()),
             "plan" => show_plan(rt, self.file.as_bytes()),
             "run" => run_words(rt, argument),

@@ -1,24 +1,28 @@
 -- The answers of the commands as those of a run, whatever its words.
-use Rattle.std.proofs.Common.{ℕ, ◌≡◌, ◌≢◌, ◌⊎◌, inl, inr, List, [], ◌∷◌, Bool, true, false, Option, Some, None, Ok, Err, refl, sym, subst, ◌∙◌, ap, take, drop, length}
-use Rattle.std.specs.Prelude.{◌&&◌, cond, codes}
-use Rattle.std.specs.Option.{option_map}
+use Rattle.std.proofs.Common.{ℕ, ◌≡◌, ◌≢◌, ◌<◌, ◌≤◌, ◌⊎◌, inl, inr, List, [], ◌∷◌, Bool, true, false, Option, Some, None, Ok, Err, refl, sym, subst, ◌∙◌, ap, take, drop, length, arith}
+use Rattle.std.specs.Prelude.{◌&&◌, cond, codes, nat_lt}
+use Rattle.std.specs.Option.{option_map, option_or}
 use Rattle.std.specs.Str.{bytes_eq}
 use Rattle.std.proofs.lemmas.Slice.Eq.{bytes_eq-Decides}
-use Rattle.dip_lists.specs.First.{failure_of}
+use Rattle.dip_lists.specs.First.{Failure, failure_of}
 use Rattle.dip_io.specs.Outside.{Told, AreFirst, LoadsRose, Rose, SavesRose}
 use Rattle.dip_rule.specs.Stated.{StatedRule}
+use Rattle.sim_ports.specs.Devices.{Says}
 use Rattle.ver_text.proofs.Spells.{spelled_read}
 use Rattle.soc_report.specs.Lines.{line_of}
 use Rattle.soc_report.specs.declared.status.Status.{Status}
-use Rattle.soc_report.specs.declared.status.Status.TheVariants.{Done, Refused, Usage, ReadFailed, WriteFailed, Memory, BadText}
-use Rattle.soc_top.specs.Words.{BuildFiles, is_file_name, file_of, files_of, design_named, text_named, build_named, saved_named}
+use Rattle.soc_report.specs.declared.status.Status.TheVariants.{Done, Refused, Usage, ReadFailed, WriteFailed, BadStimulus, Memory, NoDevice, BadText}
+use Rattle.soc_top.specs.Words.{BuildFiles, SimFiles, is_file_name, file_of, files_of, three_of, design_named, text_named, build_named, sim_named, saved_named}
 use Rattle.soc_top.specs.Designs.{first_failure, answer_of, called_for}
 use Rattle.soc_top.specs.Netlists.{build_failure, IsVerilogOf}
 use Rattle.soc_top.specs.Texts.{most_text_loaded, said_by, answer_to, line_said, IsRefusedAt, too_long, no_netlist}
 use Rattle.soc_top.specs.Printing.{Printed}
 use Rattle.soc_top.specs.Worlds.{World, most_loaded, IsLoaded}
-use Rattle.soc_top.specs.Building.{WasHalted, on_line, unsaved, saved}
-use Rattle.soc_top.specs.Answers.{MapAnswered, ReadAnswered, VerilogAnswered, UsageAnswered, Answered, Completed, AnsweredBy, BuiltBy}
+use Rattle.soc_top.specs.Building.{WasHalted}
+use Rattle.soc_top.specs.Building as build
+use Rattle.soc_top.specs.Stimuli.{answer_by_checks, answer_by_devices, devices_needed, most_stimulus_loaded, simulated, stimulus_failure}
+use Rattle.soc_top.specs.Simulating.{WasStopped, on_line, unsaved, saved, WasUnread, no_design_read, no_stimulus_read}
+use Rattle.soc_top.specs.Answers.{MapAnswered, ReadAnswered, VerilogAnswered, SimAnswered, UsageAnswered, Answered, Completed, AnsweredBy, BuiltBy, IsShown, SimulatedBy}
 use Rattle.soc_top.proofs.ReadRuns.{within_said, beyond_said}
 
 -- what was appended to nothing
@@ -26,9 +30,9 @@ pub loaded : (max : ℕ) (told : Told) (before after slice : List ℕ) → befor
 loaded max told before after slice b s h = rw s (rw b at h)
 
 -- the same by rules that state the same
-pub answered_by : {a b : List StatedRule} {words : List (List ℕ)} {before after : World} {result : Status} → a ≡ b
-    → Answered a words before after result → Answered b words before after result
-answered_by {a} {b} {words} {before} {after} {result} same h = subst (λ rules. Answered rules words before after result) same h
+pub answered_by : {a b : List StatedRule} {devices : List Says} {words : List (List ℕ)} {before after : World} {result : Status} → a ≡ b
+    → Answered a devices words before after result → Answered b devices words before after result
+answered_by {a} {b} {devices} {words} {before} {after} {result} same h = subst (λ rules. Answered rules devices words before after result) same h
 
 -- ---- the form of the words
 
@@ -76,29 +80,62 @@ no_files found a e k = cc
 nothing_found : (found : Option (List ℕ)) (a : List ℕ) → found ≡ Some a → found ≡ None → ⊥
 nothing_found found a e k = cc
 
-module _ (rules : List StatedRule) (words : List (List ℕ)) (before after : World) (result : Status) where
-  pub of_map : (name : List ℕ) → design_named words ≡ Some name → MapAnswered rules name before after result → Answered rules words before after result
+-- words with one file haven't three
+one_or_three : (c d : List ℕ) (words : List (List ℕ)) (a : List ℕ) (names : SimFiles) → file_of c words ≡ Some a → three_of d words ≡ Some names → ⊥
+one_or_three c d [] a names e k = cc
+one_or_three c d (word ∷ []) a names e k = cc
+one_or_three c d (word ∷ name ∷ []) a names e k = cc
+one_or_three c d (word ∷ name ∷ more ∷ words) a names e k = cc
+
+-- and words with two haven't three
+two_or_three : (c d : List ℕ) (words : List (List ℕ)) (a : BuildFiles) (names : SimFiles) → files_of c words ≡ Some a → three_of d words ≡ Some names → ⊥
+two_or_three c d [] a names e k = cc
+two_or_three c d (word ∷ []) a names e k = cc
+two_or_three c d (word ∷ design ∷ []) a names e k = cc
+two_or_three c d (word ∷ design ∷ text ∷ []) a names e k = cc
+two_or_three c d (word ∷ design ∷ text ∷ more ∷ words) a names e k = cc
+
+same_three : (found : Option SimFiles) (a b : SimFiles) → found ≡ Some a → found ≡ Some b → a ≡ b
+same_three found a b e k = cc
+
+no_three : (found : Option SimFiles) (a : SimFiles) → found ≡ Some a → found ≡ None → ⊥
+no_three found a e k = cc
+
+module _ (rules : List StatedRule) (devices : List Says) (words : List (List ℕ)) (before after : World) (result : Status) where
+  pub of_map : (name : List ℕ) → design_named words ≡ Some name → MapAnswered rules name before after result → Answered rules devices words before after result
   of_map name e h = record {
     map = λ other k. subst (λ n. MapAnswered rules n before after result) (one_name (design_named words) name other e k) h;
     read = λ other k. absurd (not_both words name other e k);
     verilog = λ names k. absurd (one_form (codes "map") (codes "verilog") words name names e k);
+    sim = λ names k. absurd (one_or_three (codes "map") (codes "sim") words name names e k);
     usage = λ none. absurd (nothing_found (design_named words) name e none.design);
   }
 
-  pub of_read : (name : List ℕ) → text_named words ≡ Some name → ReadAnswered name before after result → Answered rules words before after result
+  pub of_read : (name : List ℕ) → text_named words ≡ Some name → ReadAnswered name before after result → Answered rules devices words before after result
   of_read name e h = record {
     map = λ other k. absurd (not_both words other name k e);
     read = λ other k. subst (λ n. ReadAnswered n before after result) (one_name (text_named words) name other e k) h;
     verilog = λ names k. absurd (one_form (codes "read") (codes "verilog") words name names e k);
+    sim = λ names k. absurd (one_or_three (codes "read") (codes "sim") words name names e k);
     usage = λ none. absurd (nothing_found (text_named words) name e none.text);
   }
 
-  pub of_verilog : (names : BuildFiles) → build_named words ≡ Some names → VerilogAnswered rules names before after result → Answered rules words before after result
+  pub of_verilog : (names : BuildFiles) → build_named words ≡ Some names → VerilogAnswered rules names before after result → Answered rules devices words before after result
   of_verilog names e h = record {
     map = λ name k. absurd (one_form (codes "map") (codes "verilog") words name names k e);
     read = λ name k. absurd (one_form (codes "read") (codes "verilog") words name names k e);
     verilog = λ other k. subst (λ n. VerilogAnswered rules n before after result) (same_files (build_named words) names other e k) h;
+    sim = λ other k. absurd (two_or_three (codes "verilog") (codes "sim") words names other e k);
     usage = λ none. absurd (no_files (build_named words) names e none.files);
+  }
+
+  pub of_sim : (names : SimFiles) → sim_named words ≡ Some names → SimAnswered rules devices names before after result → Answered rules devices words before after result
+  of_sim names e h = record {
+    map = λ name k. absurd (one_or_three (codes "map") (codes "sim") words name names k e);
+    read = λ name k. absurd (one_or_three (codes "read") (codes "sim") words name names k e);
+    verilog = λ other k. absurd (two_or_three (codes "verilog") (codes "sim") words other names k e);
+    sim = λ other k. subst (λ n. SimAnswered rules devices n before after result) (same_three (sim_named words) names other e k) h;
+    usage = λ none. absurd (no_three (sim_named words) names e none.three);
   }
 
   usage_printed : Printed (line_of Usage) Usage result before.out after.out → (result ≡ Usage) ⊎ (result ≡ WriteFailed) → UsageAnswered before after result
@@ -106,18 +143,31 @@ module _ (rules : List StatedRule) (words : List (List ℕ)) (before after : Wor
   usage_printed p (inl r) = rw r (p.whole (λ h. (cc)))
   usage_printed p (inr r) = let part = p.part r in rw r (part.0, (line_of Usage, refl, part.1))
 
-  pub of_usage : design_named words ≡ None → text_named words ≡ None → build_named words ≡ None → Printed (line_of Usage) Usage result before.out after.out
-      → Answered rules words before after result
-  of_usage d t f p = record {
+  pub of_usage : design_named words ≡ None → text_named words ≡ None → build_named words ≡ None → sim_named words ≡ None
+      → Printed (line_of Usage) Usage result before.out after.out → Answered rules devices words before after result
+  of_usage d t f three p = record {
     map = λ name k. absurd (nothing_found (design_named words) name k d);
     read = λ name k. absurd (nothing_found (text_named words) name k t);
     verilog = λ names k. absurd (no_files (build_named words) names k f);
+    sim = λ names k. absurd (no_three (sim_named words) names k three);
     usage = λ none. usage_printed p p.either;
   }
 
+no_two : (found : Option BuildFiles) → ((names : BuildFiles) → found ≡ Some names → ⊥) → found ≡ None
+no_two None h = refl
+no_two (Some names) h = absurd (h names refl)
+
 -- a name that isn't the one to be saved
 pub other_name : (words : List (List ℕ)) (names : BuildFiles) (name : List ℕ) → build_named words ≡ Some names → saved_named words ≢ Some name → name ≢ names.text
-other_name words names name e h same = h (ap (option_map (λ (n : BuildFiles). n.text)) e ∙ ap Some (sym same))
+other_name words names name e h same =
+    h (ap (λ (found : Option BuildFiles). option_or (option_map (λ (n : BuildFiles). n.text) found) (option_map (λ (n : SimFiles). n.text) (sim_named words))) e
+    ∙ ap Some (sym same))
+
+pub other_than_three : (words : List (List ℕ)) (names : SimFiles) (name : List ℕ) → sim_named words ≡ Some names → saved_named words ≢ Some name → name ≢ names.text
+other_than_three words names name e h same =
+    let none : build_named words ≡ None = no_two (build_named words) (λ other k. two_or_three (codes "verilog") (codes "sim") words other names k e) in
+    h (ap (λ (found : Option BuildFiles). option_or (option_map (λ (n : BuildFiles). n.text) found) (option_map (λ (n : SimFiles). n.text) (sim_named words))) none
+    ∙ ap (option_map (λ (n : SimFiles). n.text)) e ∙ ap Some (sym same))
 
 -- ---- what comes where a file is told and was loaded
 
@@ -148,6 +198,8 @@ module _ (rules : List StatedRule) (name : List ℕ) (before after : World) wher
   map_gives Memory h all t no_load = inl refl
   map_gives Usage h all t no_load = absurd h
   map_gives (BadText place) h all t no_load = absurd h
+  map_gives (BadStimulus rule entry) h all t no_load = absurd h
+  map_gives (NoDevice needed given) h all t no_load = absurd h
 
   read_gives : (result : Status) → ReadAnswered name before after result → (all : List ℕ) → before.files.content name ≡ Some (Some all)
       → ¬ (LoadsRose name before.files after.files)
@@ -167,12 +219,14 @@ module _ (rules : List StatedRule) (name : List ℕ) (before after : World) wher
   read_gives Memory h all t no_load = inl refl
   read_gives Usage h all t no_load = absurd h
   read_gives (Refused check subject) h all t no_load = absurd h
+  read_gives (BadStimulus rule entry) h all t no_load = absurd h
+  read_gives (NoDevice needed given) h all t no_load = absurd h
 
 module _ (rules : List StatedRule) (names : BuildFiles) (before after : World) (all : List ℕ) where
   halted : WasHalted rules names before after → ¬ (SavesRose names.text before.files after.files) → Rose before.out.faults after.out.faults
-  halted (on_line same cut) no_save = cut.0
-  halted (unsaved netlist text is rose nothing) no_save = absurd (no_save rose)
-  halted (saved netlist text is saves cut) no_save = cut.0
+  halted (build.on_line same cut) no_save = cut.0
+  halted (build.unsaved netlist text is rose nothing) no_save = absurd (no_save rose)
+  halted (build.saved netlist text is saves cut) no_save = cut.0
 
   verilog_gives : (result : Status) → VerilogAnswered rules names before after result → before.files.content names.design ≡ Some (Some all)
       → ¬ (LoadsRose names.design before.files after.files) → ¬ (SavesRose names.text before.files after.files)
@@ -192,6 +246,86 @@ module _ (rules : List StatedRule) (names : BuildFiles) (before after : World) (
   verilog_gives Memory h t no_load no_save = inl refl
   verilog_gives Usage h t no_load no_save = absurd h
   verilog_gives (BadText place) h t no_load no_save = absurd h
+  verilog_gives (BadStimulus rule entry) h t no_load no_save = absurd h
+  verilog_gives (NoDevice needed given) h t no_load no_save = absurd h
+
+-- ---- two files and devices
+
+module _ (rules : List StatedRule) (devices : List Says) (names : SimFiles) (before after : World) (all given : List ℕ) where
+  stopped : WasStopped rules devices names before after → ¬ (SavesRose names.text before.files after.files) → Rose before.out.faults after.out.faults
+  stopped (on_line same cut) no_save = cut.0
+  stopped (unsaved setup cycles netlist text is rose nothing) no_save = absurd (no_save rose)
+  stopped (saved setup cycles netlist text is saves rose part) no_save = rose
+
+  unread : WasUnread rules names before after → ¬ (LoadsRose names.design before.files after.files) → ¬ (LoadsRose names.stimulus before.files after.files) → ⊥
+  unread (no_design_read rose) no_design no_stimulus = no_design rose
+  unread (no_stimulus_read bytes passed rose) no_design no_stimulus = no_stimulus rose
+
+  -- what two files call for, by what stands of each
+  called : (design_file stimulus_file : List ℕ) (check rule : Option Failure) → build_failure rules design_file ≡ check → stimulus_failure rules design_file stimulus_file ≡ rule
+      → simulated rules (length devices) design_file stimulus_file ≡ answer_by_checks check rule (devices_needed rules design_file) (length devices)
+  unfolding simulated
+  called design_file stimulus_file check rule e k =
+      ap (λ c. answer_by_checks c (stimulus_failure rules design_file stimulus_file) (devices_needed rules design_file) (length devices)) e
+      ∙ ap (λ r. answer_by_checks check r (devices_needed rules design_file) (length devices)) k
+
+  called_refused : (design_file stimulus_file : List ℕ) (failure : Failure) → build_failure rules design_file ≡ Some failure
+      → simulated rules (length devices) design_file stimulus_file ≡ answer_of (Some failure)
+  called_refused design_file stimulus_file failure e = called design_file stimulus_file (Some failure) (stimulus_failure rules design_file stimulus_file) e refl
+
+  too_few : (needed count : ℕ) → count < needed → answer_by_devices needed count ≡ NoDevice needed count
+  too_few needed count h =
+      let t : nat_lt count needed ≡ true = grind arith in
+      ap (λ few. cond few (NoDevice needed count) Done) t
+
+  enough : (needed count : ℕ) → needed ≤ count → answer_by_devices needed count ≡ Done
+  enough needed count h =
+      let t : nat_lt count needed ≡ false = grind arith in
+      ap (λ few. cond few (NoDevice needed count) Done) t
+
+  module _ (t : before.files.content names.design ≡ Some (Some all)) (u : before.files.content names.stimulus ≡ Some (Some given))
+      (no_design : ¬ (LoadsRose names.design before.files after.files)) (no_stimulus : ¬ (LoadsRose names.stimulus before.files after.files))
+      (no_save : ¬ (SavesRose names.text before.files after.files)) where
+    -- what was loaded is what is told
+    loaded_design : (bytes : List ℕ) → IsLoaded most_loaded names.design before bytes → bytes ≡ take most_loaded all
+    loaded_design bytes l = whole most_loaded names.design before bytes all t l
+
+    loaded_stimulus : (bytes : List ℕ) → IsLoaded most_stimulus_loaded names.stimulus before bytes → bytes ≡ take most_stimulus_loaded given
+    loaded_stimulus bytes l = whole most_stimulus_loaded names.stimulus before bytes given u l
+
+    -- a refusal with its line
+    refusal : (result : Status) (design_file stimulus_file : List ℕ) → design_file ≡ take most_loaded all → stimulus_file ≡ take most_stimulus_loaded given
+        → simulated rules (length devices) design_file stimulus_file ≡ result
+        → IsShown rules devices names.text design_file stimulus_file before after result
+        → SimulatedBy rules devices names.text (take most_loaded all) (take most_stimulus_loaded given) before after result
+    refusal result design_file stimulus_file e k s h =
+        inr (inr (subst (λ (d : List ℕ). (result ≡ simulated rules (length devices) d (take most_stimulus_loaded given)) × IsShown rules devices names.text d (take most_stimulus_loaded given) before after (simulated rules (length devices) d (take most_stimulus_loaded given))) e
+        (subst (λ (x : List ℕ). (result ≡ simulated rules (length devices) design_file x) × IsShown rules devices names.text design_file x before after (simulated rules (length devices) design_file x)) k
+        (sym s, subst (λ (r : Status). IsShown rules devices names.text design_file stimulus_file before after r) (sym s) h))))
+
+    sim_gives : (result : Status) → SimAnswered rules devices names before after result
+        → SimulatedBy rules devices names.text (take most_loaded all) (take most_stimulus_loaded given) before after result
+    unfolding SimAnswered
+    sim_gives Done (setup, (cycles, (netlist, (text, is, saves, traced)))) =
+        let d = is.loaded.passed in
+        refusal Done is.design_file is.stimulus_file (loaded_design is.design_file d.loaded) (loaded_stimulus is.stimulus_file is.loaded.loaded)
+        (called is.design_file is.stimulus_file None None d.passes is.is.accepts ∙ enough (devices_needed rules is.design_file) (length devices) is.is.enough)
+        (setup, (cycles, (netlist, (text, is.is, saves, traced))))
+    sim_gives (Refused check subject) (bytes, l, found, kept, written) =
+        refusal (Refused check subject) bytes (take most_stimulus_loaded given) (loaded_design bytes l) refl
+        (called_refused bytes (take most_stimulus_loaded given) (failure_of check subject) found) (kept, written)
+    sim_gives (BadStimulus rule entry) (design_file, (stimulus_file, l, found, kept, written)) =
+        refusal (BadStimulus rule entry) design_file stimulus_file (loaded_design design_file l.passed.loaded) (loaded_stimulus stimulus_file l.loaded)
+        (called design_file stimulus_file None (Some (failure_of rule entry)) l.passed.passes found) (kept, written)
+    sim_gives (NoDevice needed count) (design_file, (stimulus_file, l, none, n, c, lt, kept, written)) =
+        refusal (NoDevice needed count) design_file stimulus_file (loaded_design design_file l.passed.loaded) (loaded_stimulus stimulus_file l.loaded)
+        (called design_file stimulus_file None None l.passed.passes none ∙ ap (λ (x : ℕ). answer_by_devices x (length devices)) (sym n)
+        ∙ ap (λ (x : ℕ). answer_by_devices needed x) (sym c) ∙ too_few needed count lt) (kept, written)
+    sim_gives ReadFailed (kept, was, written) = absurd (unread was no_design no_stimulus)
+    sim_gives WriteFailed h = inr (inl (refl, stopped h no_save))
+    sim_gives Memory h = inl refl
+    sim_gives Usage h = absurd h
+    sim_gives (BadText place) h = absurd h
 
 usage_gives : (before after : World) (result : Status) → UsageAnswered before after result → (result ≡ WriteFailed) ⊎ (result ≡ Usage)
 unfolding UsageAnswered
@@ -202,12 +336,16 @@ usage_gives before after (Refused check subject) h = absurd h
 usage_gives before after ReadFailed h = absurd h
 usage_gives before after Memory h = absurd h
 usage_gives before after (BadText place) h = absurd h
+usage_gives before after (BadStimulus rule entry) h = absurd h
+usage_gives before after (NoDevice needed given) h = absurd h
 
-pub completed : (rules : List StatedRule) (words : List (List ℕ)) (before after : World) (result : Status) → Answered rules words before after result
-    → Completed rules words before after result
-completed rules words before after result a = record {
+pub completed : (rules : List StatedRule) (devices : List Says) (words : List (List ℕ)) (before after : World) (result : Status)
+    → Answered rules devices words before after result → Completed rules devices words before after result
+completed rules devices words before after result a = record {
   of_words = λ none. usage_gives before after result (a.usage none);
   of_design = λ name all e. map_gives rules name before after result (a.map name e) all;
   of_text = λ name all e. read_gives rules name before after result (a.read name e) all;
   of_files = λ names all e. verilog_gives rules names before after all result (a.verilog names e);
+  of_simulation = λ names all given e t u no_design no_stimulus no_save.
+      sim_gives rules devices names before after all given t u no_design no_stimulus no_save result (a.sim names e);
 }

@@ -24,13 +24,13 @@ module _ (rules : List StatedRule) (bytes : List ℕ) where
   file_fails fault h = in_first (file_checks bytes) (build_checks_of rules (stated_design bytes)) fault h
 
   module _ (design : Design) (stated : stated_design bytes ≡ Some design) (passes : first_failing (file_checks bytes) ≡ None) where
-    design_fails : (fault : Fault) → IsFaultOf (first_failing (build_checks rules design)) fault → IsFaultOf (build_failure rules bytes) fault
+    pub design_fails : (fault : Fault) → IsFaultOf (first_failing (build_checks rules design)) fault → IsFaultOf (build_failure rules bytes) fault
     unfolding build_failure
     design_fails fault h =
         in_second (file_checks bytes) (build_checks_of rules (stated_design bytes)) fault passes
         (subst (λ (o : Option Design). IsFaultOf (first_failing (build_checks_of rules o)) fault) (sym stated) h)
 
-    none_found : first_failing (build_checks rules design) ≡ None → build_failure rules bytes ≡ None
+    pub none_found : first_failing (build_checks rules design) ≡ None → build_failure rules bytes ≡ None
     unfolding build_failure
     none_found h =
         both_pass (file_checks bytes) (build_checks_of rules (stated_design bytes)) passes

@@ -2,8 +2,10 @@ pub mod Words
 pub mod Designs
 pub mod Netlists
 pub mod Texts
+pub mod Stimuli
 pub mod FirstOfAll
 pub mod Printing
 pub mod Worlds
 pub mod Building
+pub mod Simulating
 pub mod Answers

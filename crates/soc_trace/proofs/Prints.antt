@@ -1,13 +1,12 @@
 -- A text on its way to an output.
-use Rattle.std.proofs.Common.{◌≡◌, ℕ, ◌+◌, ◌<◌, ◌≤◌, List, [], ◌∷◌, ◌++◌, length, take, drop, get_or, Option, Some, None, Result, Ok, Err, refl, sym, ap, ◌∙◌, subst, suc, arith, append_assoc, length-append}
+use Rattle.std.proofs.Common.{◌≡◌, ℕ, ◌+◌, ◌<◌, ◌≤◌, List, [], ◌∷◌, ◌++◌, length, take, drop, get_or, Option, Some, None, Result, Ok, Err, inl, inr, refl, sym, ap, ◌∙◌, subst, suc, arith, append_assoc, length-append}
 use Rattle.std.proofs.lemmas.List.{append-nil, take-append-drop, take-append-le}
 use Rattle.std.proofs.Math.Seq.{take-append-add, take-suc}
 use Rattle.std.specs.Prelude.{OnErr, OnOk}
-use Rattle.dip_io.specs.Outside.{OutSeen, Writes, WritesPart, appended}
+use Rattle.dip_io.specs.Outside.{OutSeen, Rose, Writes, WritesPart, appended}
 use Rattle.tl_edge.specs.declared.beat.Event.{Event}
-use Rattle.soc_report.specs.TraceLines.{trace_line}
-use Rattle.soc_trace.specs.Traces.{trace_lines}
-use Rattle.soc_trace.specs.Printing.{Prints}
+use Rattle.soc_report.specs.TraceLines.{trace_line, trace_lines}
+use Rattle.soc_trace.specs.Printing.{Prints, TriesToPrint}
 
 add_one : (n : ℕ) → n + 1 ≡ suc n
 add_one n = omega arith
@@ -126,6 +125,23 @@ cut_line line text waiting left before middle after e p w =
     (cut_off line [] waiting left before middle after p (subst (λ (t : List ℕ). WritesPart t middle after) (sym (append-nil left)) w))
 
 -- ---- answers
+
+since : (before middle after : ℕ) → before ≤ middle → Rose middle after → Rose before after
+since before middle after h (inl l) = inl (omega arith)
+since before middle after h (inr e) = inr e
+
+-- a call that failed, where the count of faults had not fallen before it rose
+pub failed : {E : Type 0} (piece waiting room : List ℕ) (before after : OutSeen) (result : Result ℕ E) (e : E) (middle : ℕ) → result ≡ Err e
+    → WritesPart (waiting ++ piece) before after → before.faults ≤ middle → middle ≤ after.faults → Rose middle after.faults
+    → TriesToPrint piece waiting before result room after
+failed piece waiting room before after (Ok x) e middle is w b a r = absurd (let q : Ok x ≡ Err e = is in cc)
+failed piece waiting room before after (Err x) e middle is w b a r = record {
+  within = tt;
+  ok = tt;
+  refused = w;
+  later = omega (arith, b, a);
+  cause = since before.faults middle after.faults b r;
+}
 
 pub on_err : {A E : Type 0} (r : Result A E) (P : Type 0) → P → OnErr r P
 on_err (Ok x) P p = tt

@@ -1,6 +1,8 @@
-//! The lines of a trace on their way to an output: in large pieces, and without taking memory.
+//! The trace of a run, printed as it comes: in large pieces, and without taking memory.
 #![tactic(auto)]
 
+mod run;
 mod waiting;
 
-pub use waiting::{WAITING, print_end, print_events};
+pub use run::print_run;
+pub use waiting::WAITING;

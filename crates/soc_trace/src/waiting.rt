@@ -1,8 +1,7 @@
 ghost use Rattle.std.specs.Prelude.{◌≡◌, ◌≤◌, ◌+◌, ◌++◌, [], length, take, IfOk, OnOk, OnErr};
 ghost use Rattle.dip_io.specs.Outside.{Rose, Writes, WritesPart};
-ghost use Rattle.soc_report.specs.TraceLines.{end_line, trace_line};
-ghost use Rattle.soc_trace.specs.Printing.{Prints};
-ghost use Rattle.soc_trace.specs.Traces.{trace_lines};
+ghost use Rattle.soc_report.specs.TraceLines as lines;
+ghost use Rattle.soc_trace.specs.Printing.{Prints, TriesToPrint};
 
 use dip_io::{Failed, Out, put_all};
 use soc_report::{Totals, end_line, trace_line};
@@ -56,14 +55,9 @@ fn print_line<O: Out>(
 ) -> Result<usize, Failed>
     requires used { used ≤ length waiting.old }
     requires short { length line.now ≤ length waiting.old }
-    ensures within { IfOk result (λ end. end ≤ length waiting.new) }
+    ensures printed { TriesToPrint line.now (take used waiting.old) (O.seen out.old) result waiting.new
+        (O.seen out.new) }
     ensures room { length waiting.new ≡ length waiting.old }
-    ensures ok { IfOk result (λ end. Prints line.now (take used waiting.old) (O.seen out.old)
-        (take end waiting.new) (O.seen out.new)) }
-    ensures refused { OnErr result (WritesPart (take used waiting.old ++ line.now) (O.seen out.old)
-        (O.seen out.new)) }
-    ensures later { (O.seen out.old).faults ≤ (O.seen out.new).faults }
-    ensures cause { OnErr result (Rose (O.seen out.old).faults (O.seen out.new).faults) }
 {
     let used = make_room(out, waiting, used, line.len())?;
     Ok(add(waiting, used, line))
@@ -78,14 +72,9 @@ fn print_event<O: Out>(
 ) -> Result<usize, Failed>
     requires used { used ≤ length waiting.old }
     requires large { 160 ≤ length waiting.old }
-    ensures within { IfOk result (λ end. end ≤ length waiting.new) }
+    ensures printed { TriesToPrint (lines.trace_line event.now) (take used waiting.old) (O.seen out.old)
+        result waiting.new (O.seen out.new) }
     ensures room { length waiting.new ≡ length waiting.old }
-    ensures ok { IfOk result (λ end. Prints (trace_line event.now) (take used waiting.old)
-        (O.seen out.old) (take end waiting.new) (O.seen out.new)) }
-    ensures refused { OnErr result (WritesPart (take used waiting.old ++ trace_line event.now)
-        (O.seen out.old) (O.seen out.new)) }
-    ensures later { (O.seen out.old).faults ≤ (O.seen out.new).faults }
-    ensures cause { OnErr result (Rose (O.seen out.old).faults (O.seen out.new).faults) }
 {
     let mut line = [0u8; 160];
     let count = trace_line(event, &mut line);
@@ -102,14 +91,9 @@ pub fn print_events<O: Out>(
 ) -> Result<usize, Failed>
     requires used { used ≤ length waiting.old }
     requires large { 160 ≤ length waiting.old }
-    ensures within { IfOk result (λ end. end ≤ length waiting.new) }
+    ensures printed { TriesToPrint (lines.trace_lines events.now) (take used waiting.old) (O.seen out.old)
+        result waiting.new (O.seen out.new) }
     ensures room { length waiting.new ≡ length waiting.old }
-    ensures ok { IfOk result (λ end. Prints (trace_lines events.now) (take used waiting.old)
-        (O.seen out.old) (take end waiting.new) (O.seen out.new)) }
-    ensures refused { OnErr result (WritesPart (take used waiting.old ++ trace_lines events.now)
-        (O.seen out.old) (O.seen out.new)) }
-    ensures later { (O.seen out.old).faults ≤ (O.seen out.new).faults }
-    ensures cause { OnErr result (Rose (O.seen out.old).faults (O.seen out.new).faults) }
 {
     let mut end = used;
     for event in events {
@@ -127,9 +111,9 @@ pub fn print_end<O: Out>(
 ) -> Result<(), Failed>
     requires used { used ≤ length waiting.old }
     requires large { 160 ≤ length waiting.old }
-    ensures ok { OnOk result (Writes (take used waiting.old ++ end_line totals.now) (O.seen out.old)
+    ensures ok { OnOk result (Writes (take used waiting.old ++ lines.end_line totals.now) (O.seen out.old)
         (O.seen out.new)) }
-    ensures refused { OnErr result (WritesPart (take used waiting.old ++ end_line totals.now)
+    ensures refused { OnErr result (WritesPart (take used waiting.old ++ lines.end_line totals.now)
         (O.seen out.old) (O.seen out.new)) }
     ensures later { (O.seen out.old).faults ≤ (O.seen out.new).faults }
     ensures cause { OnErr result (Rose (O.seen out.old).faults (O.seen out.new).faults) }

@@ -8,7 +8,7 @@ use Rattle.soc_top.proofs.verilog.run_on.Goals as goal
 pub returns-in-Ok-clause-runs : goal.returns-in-Ok-clause-runs
 returns-in-Ok-clause-runs g c =
     let n = c.in-Ok.netlist in
-    let formed = c.in-Ok.ensures.made.made.formed in
+    let formed = c.in-Ok.ensures.made.made.built.formed in
     run_built _ _ _ _ _ _ n (layout n) c.in-Ok.ensures.passes
     (is_verilog _ _ n c.in-Ok.ensures.made (text_spells (layout n) n refl formed) (text_read (layout n) n refl formed)) c.save_netlist.ensures.saved
 

@@ -1,5 +1,5 @@
 use Rattle.std.proofs.Common.{◌≡◌, ◌≤◌, length, take}
-use Rattle.soc_trace.specs.Traces.{trace_lines}
+use Rattle.soc_report.specs.TraceLines.{trace_lines}
 use Rattle.soc_trace.specs.Printing.{Prints}
 use Rattle.soc_trace.proofs.waiting.print_events.Given as goal
 
